@@ -1,0 +1,37 @@
+-- To compute an attempt, every definition that is shut is opened: `unfolding computing`.
+use Rattle.rules.specs.Steps.{_>>=_, fetchBytes, consultKey, stopIf, endingAs}
+use Rattle.rules.specs.Translation.{formatOf, segmentEntry, pageAddress, translate}
+use Rattle.rules.specs.Access.{realOf, access, storeTest, logicalFetch, secondHalfword}
+use Rattle.rules.specs.ControlFields.{controlWord, controlHalfword, micrseg, miccreg, micvpsw}
+use Rattle.rules.specs.Completion.{complete}
+use Rattle.rules.specs.SetSystemMask.{maskOperand, replaceMask, setSystemMask}
+use Rattle.rules.specs.StoreControl.{virtualRegisters, operandWords, storeRegisters, storeControl}
+use Rattle.rules.specs.StoreThenMask.{storeMasks, storeThen}
+use Rattle.rules.specs.SetStorageKey.{storeSwapWord, setBlockKey, setKeyIn, setStorageKey}
+use Rattle.rules.specs.Attempt.{sizesFit, assisted, instruction, program}
+
+-- what every instruction reads by
+unfoldable pub walking : Unit {0}
+unfolding _>>=_ fetchBytes consultKey stopIf endingAs formatOf segmentEntry pageAddress translate realOf access
+walking = tt
+
+unfoldable pub fetching : Unit {0}
+unfolding walking storeTest logicalFetch secondHalfword controlWord controlHalfword micrseg miccreg micvpsw complete
+fetching = tt
+
+-- the instructions
+unfoldable pub masking : Unit {0}
+unfolding fetching maskOperand replaceMask setSystemMask storeMasks storeThen
+masking = tt
+
+unfoldable pub storing : Unit {0}
+unfolding fetching virtualRegisters operandWords storeRegisters storeControl
+storing = tt
+
+unfoldable pub keying : Unit {0}
+unfolding fetching storeSwapWord setBlockKey setKeyIn setStorageKey
+keying = tt
+
+unfoldable pub computing : Unit {0}
+unfolding masking storing keying sizesFit assisted instruction program
+computing = tt

@@ -1,0 +1,150 @@
+-- How an instruction can end, the record that it hands back, and how many references it can make: what all five share.
+pub mod SetSystemMask
+pub mod StoreControl
+pub mod StoreThenMask
+pub mod SetStorageKey
+pub mod Attempt
+use Prim.Native.Nat.{ℕ, _+_, _^_, _≤_, _<_}
+use native.Mathlib.Omega.{arith}
+use mathlib.Core.Path.{_≡_, refl}
+use mathlib.Core.Bool.{Bool, true, false, true≢false}
+use lib.ListN.{length}
+use lib.Dec.{eqb}
+use Rattle.rules.specs.Guest.{Guest, advance}
+use Rattle.rules.specs.Endings.{
+  Ending,
+  Completed,
+  Interruption,
+  Protection,
+  Addressing,
+  SegmentTranslation,
+  PageTranslation,
+  TranslationSpecification,
+  Expanded,
+  numbers,
+  refuse,
+  expanded,
+}
+use Rattle.rules.specs.Steps.{Steps, _>>=_, fetchBytes, consultKey, stopIf}
+use Rattle.rules.specs.Access.{realOf, access, logicalFetch}
+use Rattle.rules.specs.Completion.{Call, Completion}
+use Rattle.rules.specs.Theorems.Answers.{table, listed, Possible, instructionLength}
+use Rattle.rules.proofs.Computing.{walking}
+use Rattle.rules.proofs.Within.{Within, Any, within-then}
+
+-- ---- endings
+
+-- an ending with which an instruction stops short of completion
+pub record Stops (op : ℕ) (e : Ending) : Type 0 where
+  pub possible : Possible op e
+  pub short : eqb (numbers e .number) 0 ≡ false
+
+-- one that carries no address
+pub possible : {op : ℕ} {e : Ending} → listed (table op) (numbers e .number) (numbers e .code) ≡ true
+    → numbers e .address ≡ 0 → Possible op e
+possible l z = record { inTable = l; logical = omega arith; elsewhere = λ t. z }
+
+pub stops : {op : ℕ} {e : Ending} → listed (table op) (numbers e .number) (numbers e .code) ≡ true
+    → numbers e .address ≡ 0 → eqb (numbers e .number) 0 ≡ false → Stops op e
+stops l z n = record { possible = possible l z; short = n }
+
+pub stops-expanded : (op : ℕ) → Stops op Expanded → Stops op refuse → (installed : Bool) → Stops op (expanded installed)
+stops-expanded op h k true = h
+stops-expanded op h k false = k
+
+-- the exceptions of an access to an address all have E
+pub record Exceptions (E : Ending → Type 0) (a : ℕ) : Type 0 where
+  pub addressing : E (Interruption Addressing)
+  pub protection : E (Interruption Protection)
+  pub specification : E (Interruption TranslationSpecification)
+  pub segment : E (Interruption (SegmentTranslation a))
+  pub page : E (Interruption (PageTranslation a))
+
+-- ---- accesses
+
+pub realOf-within : (E : Ending → Type 0) (g : Guest) (a : ℕ) → Exceptions E a → Within E Any (realOf g a) 2
+unfolding walking
+realOf-within E g a x = (
+  λ t. (
+    λ t1. x .specification,
+    λ t1. (
+      λ t2. x .segment,
+      λ t2. (
+        x .addressing,
+        λ segment. (
+          λ t3. x .segment,
+          λ t3. (
+            λ t4. x .specification,
+            λ t4. (
+              λ t5. x .page,
+              λ t5. (x .addressing, λ page. (λ t6. x .page, λ t6. (λ t7. x .specification, λ t7. tt))),
+            ),
+          ),
+        ),
+      ),
+    ),
+  ),
+  λ t. tt,
+)
+
+pub access-within : (E : Ending → Type 0) (passes : ℕ → ℕ → Bool) (g : Guest) (a : ℕ) → Exceptions E a
+    → Within E Any (access passes g a) 3
+unfolding access consultKey stopIf _>>=_
+access-within E passes g a x =
+    within-then E (λ real. Unit {0}) Any (λ r j k l h. tt) (realOf g a) _ 2 1 3 (omega arith)
+    (realOf-within E g a x) (λ real t. (x .addressing, λ k. (λ t. x .protection, λ t. tt)))
+
+pub logicalFetch-within : (E : Ending → Type 0) (g : Guest) (a n : ℕ) → Exceptions E a
+    → Within E Any (logicalFetch g a n) 4
+unfolding logicalFetch fetchBytes
+logicalFetch-within E g a n x =
+    within-then E (λ real. Unit {0}) Any (λ r j k l h. tt) (access _ g a) _ 3 1 4 (omega arith)
+    (access-within E _ g a x) (λ real t. (x .addressing, λ v. tt))
+
+-- ---- instructions
+
+-- a completion: the record moved on, and no more writes than references left
+pub record Completes (op : ℕ) (c : Call) (k : Completion) (left : ℕ) : Type 0 where
+  pub possible : Possible op Completed
+  pub advanced : k .guest ≡ advance (c .guest) (instructionLength op)
+  pub written : length (k .writes) ≤ left
+
+pub completes : {op : ℕ} {c : Call} {k : Completion} {left : ℕ} → listed (table op) 0 0 ≡ true
+    → k .guest ≡ advance (c .guest) (instructionLength op) → length (k .writes) ≤ left → Completes op c k left
+completes l a w = record { possible = possible l refl; advanced = a; written = w }
+
+pub completes-more : (op : ℕ) (c : Call) (k : Completion) (i j : ℕ) → i ≤ j → Completes op c k i → Completes op c k j
+completes-more op c k i j l h = record {
+  possible = h .possible;
+  advanced = h .advanced;
+  written = let w : length (k .writes) ≤ i = h .written in omega arith;
+}
+
+abbrev pub Fits : (op : ℕ) → Call → Steps Completion → ℕ → Type 0
+Fits op c p n = Within (Stops op) (Completes op c) p n
+
+-- p, whose result does not matter, and then f
+pub fits-then : (op : ℕ) (c : Call) (p : Steps ℕ) (f : ℕ → Steps Completion) (j n m : ℕ) → j + n ≤ m
+    → Within (Stops op) Any p j → ((v : ℕ) → Fits op c (f v) n) → Fits op c (p >>= f) m
+fits-then op c p f j n m l h g =
+    within-then (Stops op) (λ v. Unit {0}) (Completes op c) (completes-more op c) p f j n m l h (λ v t. g v)
+
+-- the exceptions of an access to a 24-bit address, where the table lists them
+abbrev pub Lists : (op code : ℕ) → Type 0
+Lists op code = listed (table op) 1 code ≡ true
+
+pub exceptions : (op a : ℕ) → a < 2 ^ 24 → Lists op 4 × Lists op 5 × Lists op 16 × Lists op 17 × Lists op 18
+    → Exceptions (Stops op) a
+exceptions op a l h = record {
+  protection = stops (h .0) refl refl;
+  addressing = stops (h .1) refl refl;
+  segment = record {
+    possible = record { inTable = h .2; logical = l; elsewhere = λ t. absurd (true≢false t) };
+    short = refl;
+  };
+  page = record {
+    possible = record { inTable = h .3; logical = l; elsewhere = λ t. absurd (true≢false t) };
+    short = refl;
+  };
+  specification = stops (h .4) refl refl;
+}

@@ -1,0 +1,66 @@
+-- SET SYSTEM MASK: how it can end, and at most 13 references.
+use Prim.Native.Nat.{ℕ, _^_, _<_}
+use native.Mathlib.Omega.{arith}
+use mathlib.Core.Path.{refl}
+use Rattle.rules.specs.Machine.{_⊕_}
+use Rattle.rules.specs.Guest.{effective, instructionAddress}
+use Rattle.rules.specs.Steps.{_>>=_, fetchBytes, stopIf}
+use Rattle.rules.specs.Access.{secondHalfword}
+use Rattle.rules.specs.ControlFields.{controlWord, miccreg}
+use Rattle.rules.specs.Completion.{Call}
+use Rattle.rules.specs.SetSystemMask.{maskOperand, replaceMask, setSystemMask}
+use Rattle.rules.proofs.Computing.{masking}
+use Rattle.rules.proofs.Within.{Within, Any, within-then}
+use Rattle.rules.proofs.Fits.{
+  completes,
+  Stops,
+  possible,
+  stops,
+  stops-expanded,
+  Exceptions,
+  logicalFetch-within,
+  Fits,
+  fits-then,
+  exceptions,
+}
+
+ssm-exceptions : (a : ℕ) → a < 2 ^ 24 → Exceptions (Stops 0x80) a
+ssm-exceptions a l = exceptions 0x80 a l (refl, refl, refl, refl, refl)
+
+maskOperand-within : (c : Call) → Within (Stops 0x80) Any (maskOperand c) 10
+unfolding _>>=_ fetchBytes stopIf controlWord miccreg secondHalfword maskOperand
+maskOperand-within c =
+    let g = c .guest in (
+      λ t. stops refl refl refl,
+      λ t. (
+        stops refl refl refl,
+        λ creg. (
+          stops refl refl refl,
+          λ control. (
+            λ t. stops refl refl refl,
+            λ t.
+                within-then (Stops 0x80) (λ v. Unit {0}) Any (λ r j k l h. tt) (secondHalfword g) _ 4 4 8 (omega arith)
+                (logicalFetch-within _ g (instructionAddress g ⊕ 2) 2 (ssm-exceptions _ (omega arith)))
+                (λ second t. logicalFetch-within _ g (effective g second) 1 (ssm-exceptions _ (omega arith))),
+          ),
+        ),
+      ),
+    )
+
+replaceMask-fits : (c : Call) (new : ℕ) → Fits 0x80 c (replaceMask c new) 3
+unfolding masking
+replaceMask-fits c new = (
+  stops refl refl refl,
+  λ vpsw. (
+    stops refl refl refl,
+    λ first. (
+      λ t. stops-expanded 0x80 (stops refl refl refl) (stops refl refl refl) (c .installed),
+      λ t. (λ t. stops refl refl refl, λ t. completes refl refl (omega arith)),
+    ),
+  ),
+)
+
+pub setSystemMask-fits : (c : Call) → Fits 0x80 c (setSystemMask c) 13
+unfolding setSystemMask
+setSystemMask-fits c =
+    fits-then 0x80 c (maskOperand c) (replaceMask c) 10 3 13 (omega arith) (maskOperand-within c) (replaceMask-fits c)

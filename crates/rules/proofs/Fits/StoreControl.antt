@@ -1,0 +1,99 @@
+-- STORE CONTROL: how it can end, and at most 85 references.
+use Prim.Native.Nat.{ℕ, zero, suc, _+_, _*_, _^_, _≤_, _<_}
+use native.Mathlib.Omega.{arith}
+use mathlib.Core.Path.{_≡_, refl, _∙_}
+use mathlib.Core.List.{List, [], _∷_, _++_}
+use lib.ListN.{length, length-append}
+use Rattle.rules.specs.Machine.{_⊕_}
+use Rattle.rules.specs.Guest.{Guest, effective, instructionAddress}
+use Rattle.rules.specs.Steps.{_>>=_, fetchBytes, stopIf}
+use Rattle.rules.specs.Access.{access, storeTest, secondHalfword}
+use Rattle.rules.specs.ControlFields.{controlWord, miccreg, addressIn}
+use Rattle.rules.specs.Completion.{Call, r1, r3, complete}
+use Rattle.rules.specs.StoreControl.{
+  registerCount,
+  virtualRegisters,
+  operandWords,
+  wordStores,
+  storeRegisters,
+  storeControl,
+}
+use Rattle.rules.proofs.Within.{Within, within-then}
+use Rattle.rules.proofs.Fits.{
+  completes,
+  Stops,
+  possible,
+  stops,
+  Exceptions,
+  access-within,
+  logicalFetch-within,
+  Completes,
+  completes-more,
+  Fits,
+  fits-then,
+  exceptions,
+}
+
+stctl-exceptions : (a : ℕ) → a < 2 ^ 24 → Exceptions (Stops 0xb6) a
+stctl-exceptions a l = exceptions 0xb6 a l (refl, refl, refl, refl, refl)
+
+-- so many values
+abbrev Many : ℕ → List ℕ → Type 0
+Many n xs = length xs ≡ n
+
+append-many : (n : ℕ) (xs : List ℕ) (x : ℕ) → Many n xs → Many (suc n) (xs ++ x ∷ [])
+append-many n xs x h = length-append xs (x ∷ []) ∙ (let g : length xs + 1 ≡ suc n = omega arith in g)
+
+virtualRegisters-within : (ecblok : ℕ) (found : List ℕ) (r n i all : ℕ) → n + i ≡ all → Many i found
+    → Within (Stops 0xb6) (λ xs k. Many all xs) (virtualRegisters ecblok found r n) n
+unfolding _>>=_ fetchBytes controlWord virtualRegisters
+virtualRegisters-within ecblok found r zero i all e h = omega arith
+virtualRegisters-within ecblok found r (suc n) i all e h = (
+  stops refl refl refl,
+  λ v. virtualRegisters-within ecblok (found ++ v ∷ []) (r + 1) n (suc i) all (omega arith) (append-many i found v h),
+)
+
+operandWords-within : (g : Guest) (found : List ℕ) (a n i all : ℕ) → a < 2 ^ 24 → n + i ≡ all → Many i found
+    → Within (Stops 0xb6) (λ xs k. Many all xs) (operandWords g found a n) (3 * n)
+unfolding storeTest operandWords
+operandWords-within g found a zero i all l e h = omega arith
+operandWords-within g found a (suc n) i all l e h =
+    within-then (Stops 0xb6) (λ real. Unit {0}) (λ xs k. Many all xs) (λ xs j k l h. h) (access _ g a) _
+    3 (3 * n) (3 * suc n) (omega arith)
+    (access-within (Stops 0xb6) _ g a (stctl-exceptions a l))
+    (λ real t. operandWords-within g (found ++ real ∷ []) (a ⊕ 4) n (suc i) all (omega arith) (omega arith)
+    (append-many i found real h))
+
+wordStores-few : (reals values : List ℕ) → length (wordStores reals values) ≤ length reals
+wordStores-few [] values = omega arith
+wordStores-few (real ∷ reals) [] = omega arith
+wordStores-few (real ∷ reals) (value ∷ values) = let h = wordStores-few reals values in omega arith
+
+storeRegisters-fits : (c : Call) (ecblok a : ℕ) → a < 2 ^ 24 → Fits 0xb6 c (storeRegisters c ecblok a) 80
+unfolding complete storeRegisters
+storeRegisters-fits c ecblok a l =
+    let n = registerCount (r1 c) (r3 c) in
+    let E = Stops 0xb6 in
+    let G = Completes 0xb6 c in
+    within-then E (Many n) G (completes-more 0xb6 c) (virtualRegisters ecblok [] (r1 c) n) _ n (4 * n) 80 (omega arith)
+    (virtualRegisters-within ecblok [] (r1 c) n 0 n (omega arith) refl)
+    (λ values h. within-then E (Many n) G (completes-more 0xb6 c) (operandWords (c .guest) [] a n) _
+    (3 * n) n (4 * n) (omega arith)
+    (operandWords-within (c .guest) [] a n 0 n l (omega arith) refl)
+    (λ reals k. completes refl refl (let w = wordStores-few reals values in omega arith)))
+
+pub storeControl-fits : (c : Call) → Fits 0xb6 c (storeControl c) 85
+unfolding _>>=_ fetchBytes stopIf controlWord miccreg secondHalfword storeControl
+storeControl-fits c =
+    let g = c .guest in (
+      λ t. stops refl refl refl,
+      λ t. (
+        stops refl refl refl,
+        λ creg.
+            fits-then 0xb6 c (secondHalfword g) _ 4 80 84 (omega arith)
+            (logicalFetch-within _ g (instructionAddress g ⊕ 2) 2 (stctl-exceptions _ (omega arith)))
+            (λ second.
+            let a = effective g second in
+            (λ t. stops refl refl refl, λ t. storeRegisters-fits c (addressIn creg) a (omega arith))),
+      ),
+    )

@@ -1,0 +1,81 @@
+-- STORE THEN AND and STORE THEN OR SYSTEM MASK: how they can end, and at most 11 references.
+use Prim.Native.Nat.{ℕ}
+use native.Mathlib.Omega.{arith}
+use mathlib.Core.Path.{_≡_, refl, sym, ap}
+use lib.ListN.{length}
+use Rattle.rules.specs.Machine.{_⊕_}
+use Rattle.rules.specs.Guest.{advance, effective, instructionAddress}
+use Rattle.rules.specs.Endings.{Completed, Expanded, FieldMissing, refuse}
+use Rattle.rules.specs.Steps.{_>>=_, fetchBytes, stopIf, endingAs}
+use Rattle.rules.specs.Access.{access, storeTest, secondHalfword}
+use Rattle.rules.specs.ControlFields.{controlWord, controlHalfword, micvpsw}
+use Rattle.rules.specs.Completion.{Call, complete}
+use Rattle.rules.specs.StoreThenMask.{MaskChange, storeMasks, storeThen}
+use Rattle.rules.specs.Theorems.Answers.{Possible, instructionLength}
+use Rattle.rules.proofs.Within.{Any, within-endingAs}
+use Rattle.rules.proofs.Fits.{
+  Stops,
+  possible,
+  stops,
+  stops-expanded,
+  access-within,
+  logicalFetch-within,
+  Fits,
+  fits-then,
+  Lists,
+  exceptions,
+}
+
+-- what their operation codes can end with, alike
+pub record MaskTable (op : ℕ) : Type 0 where
+  pub accesses : Lists op 4 × Lists op 5 × Lists op 16 × Lists op 17 × Lists op 18
+  pub completed : Possible op Completed
+  pub refused : Stops op refuse
+  pub handed : Stops op Expanded
+  pub missing : Stops op (FieldMissing 2) × Stops op (FieldMissing 3)
+  pub length : instructionLength op ≡ 4
+
+storeMasks-fits : (op : ℕ) → MaskTable op → (c : Call) (vpsw old new : ℕ) → Fits op c (storeMasks c vpsw old new) 9
+unfolding complete secondHalfword storeTest storeMasks
+storeMasks-fits op t c vpsw old new =
+    let g = c .guest in
+    fits-then op c (endingAs (λ e. refuse) (secondHalfword g)) _ 4 5 9 (omega arith)
+    (within-endingAs (λ e. Unit {0}) (Stops op) Any (λ e. refuse) (λ e u. t .refused) (secondHalfword g) 4
+    (logicalFetch-within (λ e. Unit {0}) g (instructionAddress g ⊕ 2) 2
+    (record { addressing = tt; protection = tt; specification = tt; segment = tt; page = tt })))
+    (λ second. fits-then op c (access _ g (effective g second)) _ 3 2 5 (omega arith)
+    (access-within (Stops op) _ g (effective g second) (exceptions op _ (omega arith) (t .accesses)))
+    (λ real. record { possible = t .completed; advanced = ap (advance g) (sym (t .length)); written = omega arith }))
+
+pub storeThen-fits : (op : ℕ) → MaskTable op → (change : MaskChange) (c : Call) → Fits op c (storeThen change c) 11
+unfolding _>>=_ fetchBytes stopIf controlWord controlHalfword micvpsw storeThen
+storeThen-fits op t change c = (
+  λ x. t .refused,
+  λ x. (
+    t .missing .0,
+    λ vpsw. (
+      t .missing .1,
+      λ first. (λ x. stops-expanded op (t .handed) (t .refused) (c .installed), λ x. storeMasks-fits op t c _ _ _),
+    ),
+  ),
+)
+
+pub maskTable-and : MaskTable 0xac
+maskTable-and = record {
+  accesses = (refl, refl, refl, refl, refl);
+  completed = possible refl refl;
+  refused = stops refl refl refl;
+  handed = stops refl refl refl;
+  missing = (stops refl refl refl, stops refl refl refl);
+  length = refl;
+}
+
+pub maskTable-or : MaskTable 0xad
+maskTable-or = record {
+  accesses = (refl, refl, refl, refl, refl);
+  completed = possible refl refl;
+  refused = stops refl refl refl;
+  handed = stops refl refl refl;
+  missing = (stops refl refl refl, stops refl refl refl);
+  length = refl;
+}

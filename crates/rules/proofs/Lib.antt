@@ -1,0 +1,8 @@
+-- Laws of the definitions, and with them the theorems.
+pub mod Computing
+pub mod Within
+pub mod Fits
+pub mod All
+pub mod Puts
+pub mod Local
+pub mod Theorems

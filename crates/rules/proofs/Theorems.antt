@@ -1,0 +1,7 @@
+-- The proofs of what specs/Theorems states.
+pub mod Answers
+pub mod Edges
+pub mod MissingFields
+pub mod Count
+pub mod Isolation
+pub mod WrongPrograms

@@ -1,0 +1,33 @@
+-- Demand 1, from how each instruction can end.
+use mathlib.Core.Path.{refl, sym, _∙_}
+use mathlib.Core.List.{List}
+use mathlib.Core.Bool.{true≢false}
+use lib.ListN.{length}
+use borrow.Author.Tests.{eq-eqb}
+use Rattle.rules.specs.Machine.{Machine}
+use Rattle.rules.specs.References.{Reference}
+use Rattle.rules.specs.Run.{Outcome, ended, gave}
+use Rattle.rules.specs.Completion.{Call, operation, Completion}
+use Rattle.rules.specs.Attempt.{conclude, reading}
+use Rattle.rules.specs.Theorems.Answers.{Answered, EveryCallAnswered}
+use Rattle.rules.proofs.Within.{Came}
+use Rattle.rules.proofs.Fits.{Stops, Completes}
+use Rattle.rules.proofs.Fits.Attempt.{reading-came}
+
+concluded : (m : Machine) (c : Call) (rs : List Reference) (o : Outcome Completion)
+    → Came (Stops (operation c)) (Completes (operation c) c) 85 (length rs) o
+    → Answered m c (conclude m (c .guest) rs o)
+concluded m c rs (ended e) h = record {
+  possible = h .0 .possible;
+  untouched = λ n. (refl, refl);
+  advanced = λ z. absurd (true≢false (sym (eq-eqb _ _ z) ∙ h .0 .short));
+}
+concluded m c rs (gave k) h = record {
+  possible = h .1 .possible;
+  untouched = λ n. absurd (n refl);
+  advanced = λ z. h .1 .advanced;
+}
+
+pub every-call-answered : EveryCallAnswered
+every-call-answered m c =
+    concluded m c (reading m c .references) (reading m c .outcome) (reading-came m c)

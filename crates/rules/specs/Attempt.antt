@@ -1,0 +1,102 @@
+-- One attempt: the tests 10, 11, 12, 13 and 9, then an instruction's reading program, then its writes.
+-- Document 01, "The numbered endings".
+use Prim.Native.Nat.{ℕ, _/_, _%_}
+use mathlib.Core.Bool.{Bool, not, _||_}
+use mathlib.Core.List.{List, _++_, map}
+use lib.ListN.{length}
+use lib.Dec.{eqb, ltb}
+use Rattle.rules.specs.Endings.{
+  Ending,
+  Completed,
+  WrongMode,
+  WrongStorageSize,
+  WrongKeyCount,
+  OddInstructionAddress,
+  NotAssisted,
+}
+use Rattle.rules.specs.Guest.{Guest, instructionAddress, extendedControl, problemState}
+use Rattle.rules.specs.Machine.{Machine, performAll}
+use Rattle.rules.specs.References.{Reference, entry}
+use Rattle.rules.specs.Steps.{Steps, stop, branch, _>>=_, _>>_, stopIf}
+use Rattle.rules.specs.Run.{Outcome, ended, gave, Run, run}
+use Rattle.rules.specs.Completion.{Call, operation, Completion}
+use Rattle.rules.specs.SetSystemMask.{setSystemMask}
+use Rattle.rules.specs.StoreControl.{storeControl}
+use Rattle.rules.specs.StoreThenMask.{storeThenAnd, storeThenOr}
+use Rattle.rules.specs.SetStorageKey.{setStorageKey}
+
+-- ---- the tests
+
+-- 10: not a multiple of 2,048, or outside 2,048 to 16,777,216
+abbrev pub wrongStorage : (bytes : ℕ) → Bool
+wrongStorage bytes = not (eqb (bytes % 2048) 0) || ltb bytes 2048 || ltb 16777216 bytes
+
+-- 11: not one key for each 2,048 bytes
+abbrev pub wrongKeys : (bytes keys : ℕ) → Bool
+wrongKeys bytes keys = not (eqb keys (bytes / 2048))
+
+unfoldable pub sizesFit : (bytes keys : ℕ) → Steps (Unit {0})
+sizesFit bytes keys = do
+  stopIf (wrongStorage bytes) WrongStorageSize
+  stopIf (wrongKeys bytes keys) WrongKeyCount
+
+-- 9: real PSW bit 12 or bit 15 is zero
+abbrev pub wrongMode : Guest → Bool
+wrongMode g = not (extendedControl g) || not (problemState g)
+
+-- the instruction, where the real PSW admits it
+unfoldable pub assisted : (Call → Steps Completion) → Call → Steps Completion
+assisted instruction c = do
+  stopIf (wrongMode (c .guest)) WrongMode
+  instruction c
+
+-- by operation code; 13 where it is none of the five
+unfoldable pub instruction : Call → Steps Completion
+instruction c =
+    branch (eqb (operation c) 0x80) (assisted setSystemMask c)
+    (branch (eqb (operation c) 0xb6) (assisted storeControl c)
+    (branch (eqb (operation c) 0xac) (assisted storeThenAnd c)
+    (branch (eqb (operation c) 0xad) (assisted storeThenOr c)
+    (branch (eqb (operation c) 0x08) (assisted setStorageKey c)
+    (stop NotAssisted)))))
+
+-- 12, before them: the instruction address is odd
+abbrev pub oddAddress : Guest → Bool
+oddAddress g = not (eqb (instructionAddress g % 2) 0)
+
+unfoldable pub program : Call → Steps Completion
+program c = do
+  stopIf (oddAddress (c .guest)) OddInstructionAddress
+  instruction c
+
+-- ---- the answer
+
+-- the ending with all that it carries, the count of references, and the record handed back
+pub record Answer : Type 0 where
+  pub ending : Ending
+  pub count : ℕ
+  pub guest : Guest
+
+-- the answer, the list of references, and the machine afterwards
+pub record Result : Type 0 where
+  pub answer : Answer
+  pub references : List Reference
+  pub after : Machine
+
+abbrev pub answered : Ending → Guest → List Reference → Machine → Result
+answered e g rs m = record {
+  answer = record { ending = e; count = length rs; guest = g };
+  references = rs;
+  after = m;
+}
+
+-- completion makes the writes; every other ending leaves all as it was
+abbrev pub conclude : Machine → Guest → List Reference → Outcome Completion → Result
+conclude m g rs (ended e) = answered e g rs m
+conclude m g rs (gave c) = answered Completed (c .guest) (rs ++ map entry (c .writes)) (performAll m (c .writes))
+
+abbrev pub reading : Machine → Call → Run Completion
+reading m c = run (sizesFit (length (m .storage)) (length (m .keys)) >> program c) m
+
+abbrev pub attempt : Machine → Call → Result
+attempt m c = conclude m (c .guest) (reading m c .references) (reading m c .outcome)

@@ -1,0 +1,36 @@
+-- A call, and what its completion leaves to do.
+use Prim.Native.Nat.{ℕ}
+use mathlib.Core.Bool.{Bool}
+use mathlib.Core.List.{List}
+use Rattle.rules.specs.Guest.{Guest, advance}
+use Rattle.rules.specs.Bits.{halfword}
+use Rattle.rules.specs.Machine.{Write}
+use Rattle.rules.specs.Steps.{Steps, done}
+
+-- the record, the first halfword, and whether the expanded assist is installed
+pub record Call : Type 0 where
+  pub guest : Guest
+  pub first : ℕ
+  pub installed : Bool
+
+abbrev pub operation : Call → ℕ
+operation c = halfword 0 7 (c .first)
+
+-- bits 8-11; bits 12-15, R2 or R3; bits 8-15
+abbrev pub r1 : Call → ℕ
+r1 c = halfword 8 11 (c .first)
+
+abbrev pub r3 : Call → ℕ
+r3 c = halfword 12 15 (c .first)
+
+abbrev pub immediate : Call → ℕ
+immediate c = halfword 8 15 (c .first)
+
+-- the record handed back, and the writes in order
+pub record Completion : Type 0 where
+  pub guest : Guest
+  pub writes : List Write
+
+-- completed: the instruction address moved on by n, and the writes to be made
+unfoldable pub complete : Call → (n : ℕ) → List Write → Steps Completion
+complete c n writes = done (record { guest = advance (c .guest) n; writes = writes })

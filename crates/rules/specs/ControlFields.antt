@@ -1,0 +1,34 @@
+-- The control program's fields: real, with key zero. Document 01, "Addresses and translation".
+-- Each is fetched with the number of the step that wants it, which ending 3 carries.
+use Prim.Native.Nat.{ℕ}
+use mathlib.Core.Bool.{Bool}
+use Rattle.rules.specs.Endings.{FieldMissing}
+use Rattle.rules.specs.Guest.{Guest, micblok}
+use Rattle.rules.specs.Bits.{bit, word}
+use Rattle.rules.specs.Machine.{_⊕_}
+use Rattle.rules.specs.Steps.{Steps, fetchBytes}
+
+unfoldable pub controlWord : (step address : ℕ) → Steps ℕ
+controlWord step address = fetchBytes address 4 (FieldMissing step)
+
+unfoldable pub controlHalfword : (step address : ℕ) → Steps ℕ
+controlHalfword step address = fetchBytes address 2 (FieldMissing step)
+
+-- ---- MICBLOK: MICRSEG at offset 0, MICCREG at 4, MICVPSW at 8
+
+unfoldable pub micrseg : (step : ℕ) → Guest → Steps ℕ
+micrseg step g = controlWord step (micblok g)
+
+unfoldable pub miccreg : (step : ℕ) → Guest → Steps ℕ
+miccreg step g = controlWord step (micblok g ⊕ 4)
+
+unfoldable pub micvpsw : (step : ℕ) → Guest → Steps ℕ
+micvpsw step g = controlWord step (micblok g ⊕ 8)
+
+-- the address that MICCREG or MICVPSW gives: bits 8-31
+abbrev pub addressIn : (field : ℕ) → ℕ
+addressIn field = word 8 31 field
+
+-- MICVPSW bit 0: a virtual interruption is pending. It is no part of the address.
+abbrev pub pending : (field : ℕ) → Bool
+pending field = bit 32 0 field

@@ -1,0 +1,58 @@
+-- The numbered endings: document 01's number, code or step, and logical address for each case of the enum.
+use Prim.Native.Nat.{ℕ}
+use mathlib.Core.Bool.{Bool, cond}
+pub use Rattle.rules.specs.declared.endings.Exception.{Exception}
+pub use Rattle.rules.specs.declared.endings.Exception.the-variants.{
+  PrivilegedOperation,
+  Protection,
+  Addressing,
+  SegmentTranslation,
+  PageTranslation,
+  TranslationSpecification,
+}
+pub use Rattle.rules.specs.declared.endings.Ending.{Ending}
+pub use Rattle.rules.specs.declared.endings.Ending.the-variants.{
+  Completed,
+  Interruption,
+  Expanded,
+  FieldMissing,
+  WrongMode,
+  WrongStorageSize,
+  WrongKeyCount,
+  OddInstructionAddress,
+  NotAssisted,
+}
+
+pub record Numbers : Type 0 where
+  pub number : ℕ
+  -- the interruption code, or the step; zero where there is none
+  pub code : ℕ
+  -- the logical address that codes 16 and 17 carry; zero elsewhere
+  pub address : ℕ
+
+abbrev pub interrupted : Exception → Numbers
+interrupted PrivilegedOperation = record { number = 1; code = 2; address = 0 }
+interrupted Protection = record { number = 1; code = 4; address = 0 }
+interrupted Addressing = record { number = 1; code = 5; address = 0 }
+interrupted (SegmentTranslation a) = record { number = 1; code = 16; address = a }
+interrupted (PageTranslation a) = record { number = 1; code = 17; address = a }
+interrupted TranslationSpecification = record { number = 1; code = 18; address = 0 }
+
+abbrev pub numbers : Ending → Numbers
+numbers Completed = record { number = 0; code = 0; address = 0 }
+numbers (Interruption e) = interrupted e
+numbers Expanded = record { number = 2; code = 0; address = 0 }
+numbers (FieldMissing step) = record { number = 3; code = step; address = 0 }
+numbers WrongMode = record { number = 9; code = 0; address = 0 }
+numbers WrongStorageSize = record { number = 10; code = 0; address = 0 }
+numbers WrongKeyCount = record { number = 11; code = 0; address = 0 }
+numbers OddInstructionAddress = record { number = 12; code = 0; address = 0 }
+numbers NotAssisted = record { number = 13; code = 0; address = 0 }
+
+-- document 01's "refuse"
+abbrev pub refuse : Ending
+refuse = Interruption PrivilegedOperation
+
+-- document 01's "expanded": handed over where the expanded assist is installed, else refused
+abbrev pub expanded : (installed : Bool) → Ending
+expanded installed = cond installed Expanded refuse

@@ -1,0 +1,53 @@
+-- A guest's record: its fields, effective addresses, and the move of the instruction address.
+-- Document 01, "What is modelled" and "Addresses and translation".
+use Prim.Native.Nat.{ℕ, zero, suc, _+_, _-_, _*_}
+use mathlib.Core.Bool.{Bool}
+use lib.ListN.{getD}
+pub use Rattle.rules.specs.declared.guest.Guest.{Guest}
+use Rattle.rules.specs.Bits.{bits, bit, word, halfword}
+use Rattle.rules.specs.Machine.{_⊕_}
+
+-- ---- the real PSW
+
+abbrev pub instructionAddress : Guest → ℕ
+instructionAddress g = bits 64 40 63 (g .psw)
+
+abbrev pub translates : Guest → Bool
+translates g = bit 64 5 (g .psw)
+
+abbrev pub pswKey : Guest → ℕ
+pswKey g = bits 64 8 11 (g .psw)
+
+abbrev pub extendedControl : Guest → Bool
+extendedControl g = bit 64 12 (g .psw)
+
+abbrev pub problemState : Guest → Bool
+problemState g = bit 64 15 (g .psw)
+
+-- the instruction address moved on by n bytes; nothing else changes
+abbrev pub advance : Guest → (n : ℕ) → Guest
+advance g n = record {
+  psw = g .psw - instructionAddress g + (instructionAddress g ⊕ n);
+  general = g .general;
+  cr0 = g .cr0;
+  cr1 = g .cr1;
+  cr6 = g .cr6;
+}
+
+-- ---- registers
+
+abbrev pub register : Guest → (r : ℕ) → ℕ
+register g r = getD (g .general) r 0
+
+-- base 0 means zero
+abbrev pub base : Guest → (r : ℕ) → ℕ
+base g zero = 0
+base g (suc r) = word 8 31 (register g (suc r))
+
+-- the address that a second halfword names: bits 0-3 the base, 4-15 the displacement
+abbrev pub effective : Guest → (second : ℕ) → ℕ
+effective g second = halfword 4 15 second ⊕ base g (halfword 0 3 second)
+
+-- the address of MICBLOK: control register 6 bits 8-28, then three zeros
+abbrev pub micblok : Guest → ℕ
+micblok g = word 8 28 (g .cr6) * 8

@@ -1,0 +1,20 @@
+-- Document 01 as definitions, in its order; then, in Theorems, what is proved of them.
+pub mod Bits
+pub mod Machine
+pub mod References
+pub mod Guest
+pub mod Endings
+pub mod Steps
+pub mod Run
+pub mod Translation
+pub mod Access
+pub mod ControlFields
+pub mod Masks
+pub mod Completion
+pub mod SetSystemMask
+pub mod StoreControl
+pub mod StoreThenMask
+pub mod SetStorageKey
+pub mod Attempt
+pub mod Calls
+pub mod Theorems

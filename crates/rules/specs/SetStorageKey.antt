@@ -1,0 +1,96 @@
+-- SET STORAGE KEY (08), RR format. Document 01, "SSK"; GA22-7074, pages 18 and 19.
+-- The key of the block that R2 addresses is set from R1, in the real key and in the swap table.
+-- The manual's page names R2 as the key's register; GA22-7000 says R1, and document 01 lets that decide.
+use Prim.Native.Nat.{ℕ, _+_, _-_, _*_, _/_, _%_, _^_}
+use mathlib.Core.Bool.{Bool, cond, not, _&&_, _||_}
+use mathlib.Core.List.{List, [], _∷_, _++_}
+use lib.Dec.{eqb}
+use lib.Bits.{bitOr}
+use Rattle.rules.specs.Endings.{Ending, FieldMissing, refuse}
+use Rattle.rules.specs.Translation.{
+  Format,
+  SegmentFault,
+  SegmentTableLength,
+  SegmentEntryMissing,
+  SegmentInvalid,
+  SegmentFormat,
+  PageTableLength,
+  segmentEntry,
+  pageTable,
+  pageIndex,
+  pageEntryAt,
+  invalid,
+  malformed,
+  realAddress,
+}
+use Rattle.rules.specs.Bits.{bits, bit, word}
+use Rattle.rules.specs.Machine.{_⊕_, Write, store, setKey}
+use Rattle.rules.specs.References.{whole}
+use Rattle.rules.specs.Guest.{register}
+use Rattle.rules.specs.Steps.{Steps, branch, _>>=_, _>>_, consultKey, stopIf}
+use Rattle.rules.specs.ControlFields.{controlWord, controlHalfword, micrseg, addressIn}
+use Rattle.rules.specs.Completion.{Call, r1, r3, Completion, complete}
+
+-- the word in R1, whose bits 24-30 are the key; the word in R2, whose bits 8-31 are the address
+abbrev pub keyWord : Call → ℕ
+keyWord c = register (c .guest) (r1 c)
+
+abbrev pub addressWord : Call → ℕ
+addressWord c = register (c .guest) (r3 c)
+
+-- 4K pages; bit 31 of MICRSEG chooses 1M segments
+abbrev pub formatIn : (rseg : ℕ) → Format
+formatIn rseg = record { page = 4096; segment = cond (bit 32 31 rseg) 1048576 65536 }
+
+-- the walk's faults: an entry that is not in storage gives 3, all others refuse
+abbrev pub segmentRefusal : SegmentFault → Ending
+segmentRefusal SegmentTableLength = refuse  -- 4
+segmentRefusal SegmentEntryMissing = FieldMissing 5  -- 5
+segmentRefusal SegmentInvalid = refuse  -- 6
+segmentRefusal SegmentFormat = refuse
+segmentRefusal PageTableLength = refuse
+
+-- Step 12. The swap word: reference and change bits ORed into bits 4 and 5, or for the upper 2K block of the page into
+-- 6 and 7; R1 bits 24-30 and a zero in byte 2, or 3.
+abbrev pub swapWith : (upper : Bool) (swapWord key marks : ℕ) → ℕ
+swapWith upper w key marks =
+    bitOr (word 0 7 w) (cond upper marks (marks * 4)) * 2 ^ 24
+    + word 8 15 w * 2 ^ 16
+    + cond upper (word 16 23 w) (word 24 30 key * 2) * 2 ^ 8
+    + cond upper (word 24 30 key * 2) (word 24 31 w)
+
+-- step 12 for a call: the keys set before it, the swap word's address, the word there, and the bits to OR in
+unfoldable pub storeSwapWord : Call → List Write → (at swapWord marks : ℕ) → Steps Completion
+storeSwapWord c keys at w marks =
+    complete c 2 (keys ++ store at 4 (swapWith (bit 32 20 (addressWord c)) w (keyWord c) marks) ∷ [])
+
+-- step 11: the key of a valid page's block. R1 bits 24-28, then zeros; bit 7 as found
+abbrev pub newKey : (key old : ℕ) → ℕ
+newKey key old = word 24 28 key * 8 + old % 2
+
+unfoldable pub setBlockKey : Call → (block at swapWord : ℕ) → Steps Completion
+setBlockKey c block at w = do
+  old ← consultKey whole block (FieldMissing 11)
+  storeSwapWord c (setKey block (newKey (keyWord c) old) ∷ []) at w (bits 8 5 6 old)
+
+-- steps 7 to 12, for a format, a segment entry and an address
+unfoldable pub setKeyIn : Call → Format → (segment address : ℕ) → Steps Completion
+setKeyIn c f segment a = do
+  swapTable ← controlWord 7 (pageTable segment ⊕ (2 ^ 24 - 4))  -- 7: the page-table origin less 4
+  let at = addressIn swapTable ⊕ 8 * pageIndex f a
+  swapWord ← controlWord 8 at  -- 8
+  page ← controlHalfword 9 (pageEntryAt f segment a)  -- 9
+  stopIf (not (invalid f page) && malformed f page) refuse  -- 10
+  branch (invalid f page)  -- 11
+      (storeSwapWord c [] at swapWord 0)
+      (setBlockKey c (realAddress f page a / 2048) at swapWord)
+
+unfoldable pub setStorageKey : Call → Steps Completion
+setStorageKey c = do
+  let g = c .guest
+  let a = word 8 31 (addressWord c)
+  stopIf (not (eqb (word 0 2 (g .cr6)) 0b100) || not (eqb (word 28 31 (addressWord c)) 0)) refuse  -- 1
+  rseg ← micrseg 2 g  -- 2
+  stopIf (bit 32 30 rseg) refuse  -- 3
+  segment ← segmentEntry segmentRefusal (formatIn rseg) rseg a  -- 4, 5, 6
+  setKeyIn c (formatIn rseg) segment a

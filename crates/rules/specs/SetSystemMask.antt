@@ -1,0 +1,53 @@
+-- SET SYSTEM MASK (80), S format. Document 01, "SSM"; GA22-7074, pages 19 and 20.
+-- The operand byte becomes byte 0 of the virtual PSW.
+use Prim.Native.Nat.{ℕ}
+use mathlib.Core.Bool.{Bool, not, _&&_, _||_}
+use mathlib.Core.List.{[], _∷_}
+use lib.Dec.{eqb}
+use Rattle.rules.specs.Bits.{bit, word}
+use Rattle.rules.specs.Machine.{store}
+use Rattle.rules.specs.Guest.{effective}
+use Rattle.rules.specs.Endings.{refuse, expanded}
+use Rattle.rules.specs.Steps.{Steps, _>>=_, _>>_, stopIf}
+use Rattle.rules.specs.Access.{logicalFetch, secondHalfword}
+use Rattle.rules.specs.ControlFields.{controlWord, controlHalfword, miccreg, micvpsw, addressIn, pending}
+use Rattle.rules.specs.Masks.{maskIn, extendedIn, atAny, allBits, rises, changes}
+use Rattle.rules.specs.Completion.{Call, Completion, complete}
+
+-- steps 1 to 6: the operand byte
+unfoldable pub maskOperand : Call → Steps ℕ
+maskOperand c = do
+  let g = c .guest
+  stopIf (not (eqb (word 0 1 (g .cr6)) 0b10)) refuse  -- 1
+  creg ← miccreg 2 g  -- 2
+  control ← controlWord 3 (addressIn creg)  -- 3
+  stopIf (bit 32 1 control) refuse  -- 4
+  second ← secondHalfword g  -- 5
+  logicalFetch g (effective g second) 1  -- 6
+
+-- step 9, in the EC mode: bit 1 or 5 would change, or new bits 0, 2, 3 or 4 are not all zero, or one is pending and
+-- bit 6 or 7 goes from zero to one
+abbrev pub maskNeedsExpanded : (waiting : Bool) (old new : ℕ) → Bool
+maskNeedsExpanded waiting old new =
+    atAny (1 ∷ 5 ∷ []) (changes old new)
+    || atAny (0 ∷ 2 ∷ 3 ∷ 4 ∷ []) (λ i. bit 8 i new)
+    || (waiting && atAny (6 ∷ 7 ∷ []) (rises old new))
+
+-- and in the BC mode: one is pending and any bit goes from zero to one
+abbrev pub maskRefused : (waiting : Bool) (old new : ℕ) → Bool
+maskRefused waiting old new = waiting && atAny allBits (rises old new)
+
+-- steps 7 to 10: the new mask
+unfoldable pub replaceMask : Call → (new : ℕ) → Steps Completion
+replaceMask c new = do
+  vpsw ← micvpsw 7 (c .guest)  -- 7
+  first ← controlHalfword 8 (addressIn vpsw)  -- 8
+  let ec = extendedIn first
+  stopIf (ec && maskNeedsExpanded (pending vpsw) (maskIn first) new) (expanded (c .installed))  -- 9
+  stopIf (not ec && maskRefused (pending vpsw) (maskIn first) new) refuse
+  complete c 4 (store (addressIn vpsw) 1 new ∷ [])  -- 10
+
+unfoldable pub setSystemMask : Call → Steps Completion
+setSystemMask c = do
+  new ← maskOperand c
+  replaceMask c new

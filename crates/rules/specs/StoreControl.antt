@@ -1,0 +1,59 @@
+-- STORE CONTROL (B6), RS format. Document 01, "STCTL"; GA22-7074, pages 20 and 21.
+-- The virtual control registers from R1 up to R3 are stored at the operand.
+use Prim.Native.Nat.{ℕ, zero, suc, _+_, _-_, _*_, _%_}
+use mathlib.Core.Bool.{Bool, not, _&&_}
+use mathlib.Core.List.{List, [], _∷_, _++_}
+use lib.Dec.{eqb}
+use Rattle.rules.specs.Guest.{Guest, effective}
+use Rattle.rules.specs.Bits.{bit, word}
+use Rattle.rules.specs.Machine.{_⊕_, Write, store}
+use Rattle.rules.specs.Endings.{refuse}
+use Rattle.rules.specs.Steps.{Steps, done, _>>=_, _>>_, stopIf}
+use Rattle.rules.specs.Access.{storeTest, secondHalfword}
+use Rattle.rules.specs.ControlFields.{controlWord, miccreg, addressIn}
+use Rattle.rules.specs.Completion.{Call, r1, r3, Completion, complete}
+
+-- step 1, of STNSM and STOSM too: control register 6 bits 0-3 are 10X0
+abbrev pub assistsControl : Guest → Bool
+assistsControl g = eqb (word 0 1 (g .cr6)) 0b10 && not (bit 32 3 (g .cr6))
+
+-- how many registers R1 and R3 name; the register after 15 is register 0
+abbrev pub registerCount : (r1 r3 : ℕ) → ℕ
+registerCount r1 r3 = (r3 + 16 - r1) % 16 + 1
+
+-- n virtual control registers from r on, after the values found so far
+unfoldable pub virtualRegisters : (ecblok : ℕ) (found : List ℕ) (r n : ℕ) → Steps (List ℕ)
+virtualRegisters ecblok found r zero = done found
+virtualRegisters ecblok found r (suc n) = do
+  value ← controlWord 5 (ecblok ⊕ 4 * (r % 16))
+  virtualRegisters ecblok (found ++ value ∷ []) (r + 1) n
+
+-- n operand words from an address on, each tested for a store: their real addresses, after those found so far
+unfoldable pub operandWords : Guest → (found : List ℕ) (address n : ℕ) → Steps (List ℕ)
+operandWords g found address zero = done found
+operandWords g found address (suc n) = do
+  real ← storeTest g address
+  operandWords g (found ++ real ∷ []) (address ⊕ 4) n
+
+-- each word at the real address found for it
+abbrev pub wordStores : (reals values : List ℕ) → List Write
+wordStores [] values = []
+wordStores (real ∷ reals) [] = []
+wordStores (real ∷ reals) (value ∷ values) = store real 4 value ∷ wordStores reals values
+
+-- step 5
+unfoldable pub storeRegisters : Call → (ecblok address : ℕ) → Steps Completion
+storeRegisters c ecblok address = do
+  let n = registerCount (r1 c) (r3 c)
+  values ← virtualRegisters ecblok [] (r1 c) n
+  reals ← operandWords (c .guest) [] address n
+  complete c 4 (wordStores reals values)
+
+unfoldable pub storeControl : Call → Steps Completion
+storeControl c = do
+  let g = c .guest
+  stopIf (not (assistsControl g)) refuse  -- 1
+  creg ← miccreg 2 g  -- 2
+  second ← secondHalfword g  -- 3
+  stopIf (not (eqb (effective g second % 4) 0)) refuse  -- 4
+  storeRegisters c (addressIn creg) (effective g second)  -- 5

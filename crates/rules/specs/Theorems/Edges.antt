@@ -1,0 +1,78 @@
+-- The marked edges of document 01, "Edges to show": one table, under one statement. Numbers are hex; DAT off.
+-- Edges that document 01 calls expanded stand with the expanded assist installed and not.
+use Prim.Native.Nat.{ℕ}
+use mathlib.Core.Path.{_≡_}
+use mathlib.Core.Bool.{Bool, true, false}
+use mathlib.Core.List.{List, [], _∷_, map}
+use Rattle.rules.specs.Machine.{Machine, Write, store, setKey}
+use Rattle.rules.specs.Attempt.{attempt}
+use Rattle.rules.specs.Theorems.Samples.{Row, seen, completes, endsWith, machineWith, callWith, vpswAt, ec, bc}
+
+-- the virtual PSW and the operand byte
+abbrev masks : (pending : Bool) (first operand : ℕ) → Machine
+masks pending first operand = machineWith (vpswAt pending 0x18 ∷ store 0x18 2 first ∷ store 0x20 1 operand ∷ [])
+
+-- A mask instruction that completes makes 9 references (SSM) or 7, and moves on from 1C to 20.
+abbrev ssm : (pending : Bool) (first operand : ℕ) → List Write → Row
+ssm pending first operand = completes (masks pending first operand) (callWith 0x8000 0 true) 9 0x20
+
+abbrev ssmEnds : (installed pending : Bool) (first operand number code : ℕ) → Row
+ssmEnds installed pending first operand number code =
+    endsWith (masks pending first operand) (callWith 0x8000 0 installed) number code 8
+
+abbrev storeThen : (instruction : ℕ) (pending : Bool) (first : ℕ) → List Write → Row
+storeThen instruction pending first = completes (masks pending first 0) (callWith instruction 0 true) 7 0x20
+
+abbrev storeThenEnds : (instruction : ℕ) (installed pending : Bool) (first number code : ℕ) → Row
+storeThenEnds instruction installed pending first number code =
+    endsWith (masks pending first 0) (callWith instruction 0 installed) number code 2
+
+-- STCTL of n registers makes 3 references and 3 for each register.
+abbrev stctl : (instruction count : ℕ) → List Write → Row
+stctl instruction count = completes (machineWith []) (callWith instruction 0 true) count 0x20
+
+abbrev ssk : (address : ℕ) → List Write → Row
+ssk address = completes (machineWith []) (callWith 0x0812 address true) 8 0x1e
+
+abbrev pub edges : List Row
+edges =
+    -- STCTL R1=14, R3=1: 14, 15, 0, 1 (register r holds r + 1)
+    stctl 0xb6e1 15 (store 0x20 4 15 ∷ store 0x24 4 16 ∷ store 0x28 4 1 ∷ store 0x2c 4 2 ∷ [])
+    -- R1=R3: one register
+    ∷ stctl 0xb655 6 (store 0x20 4 6 ∷ [])
+    ∷ stctl 0xb6ff 6 (store 0x20 4 16 ∷ [])
+    -- R1=1, R3=0: sixteen
+    ∷ stctl 0xb610 51 (
+    store 0x20 4 2 ∷ store 0x24 4 3 ∷ store 0x28 4 4 ∷ store 0x2c 4 5 ∷ store 0x30 4 6 ∷ store 0x34 4 7
+    ∷ store 0x38 4 8 ∷ store 0x3c 4 9 ∷ store 0x40 4 10 ∷ store 0x44 4 11 ∷ store 0x48 4 12 ∷ store 0x4c 4 13
+    ∷ store 0x50 4 14 ∷ store 0x54 4 15 ∷ store 0x58 4 16 ∷ store 0x5c 4 1 ∷ [])
+    -- SSM, EC, old 04, new 07: completes
+    ∷ ssm false (ec 0x04) 0x07 (store 0x18 1 0x07 ∷ [])
+    -- pending: expanded
+    ∷ ssmEnds true true (ec 0x04) 0x07 2 0
+    ∷ ssmEnds false true (ec 0x04) 0x07 1 2
+    -- new 84: expanded
+    ∷ ssmEnds true false (ec 0x04) 0x84 2 0
+    ∷ ssmEnds false false (ec 0x04) 0x84 1 2
+    -- BC, pending, old FF, new 00: completes
+    ∷ ssm true (bc 0xff) 0x00 (store 0x18 1 0x00 ∷ [])
+    -- BC, pending, old 00, new 01: refuse, even with the expanded assist
+    ∷ ssmEnds true true (bc 0x00) 0x01 1 2
+    ∷ ssmEnds false true (bc 0x00) 0x01 1 2
+    -- STNSM, EC, old 07, AND FC gives 04
+    ∷ storeThen 0xacfc false (ec 0x07) (store 0x20 1 0x07 ∷ store 0x18 1 0x04 ∷ [])
+    -- AND F8: expanded
+    ∷ storeThenEnds 0xacf8 true false (ec 0x07) 2 0
+    ∷ storeThenEnds 0xacf8 false false (ec 0x07) 1 2
+    -- STOSM, pending, old 07, OR 03: completes, in either mode
+    ∷ storeThen 0xad03 true (ec 0x07) (store 0x20 1 0x07 ∷ store 0x18 1 0x07 ∷ [])
+    ∷ storeThen 0xad03 true (bc 0x07) (store 0x20 1 0x07 ∷ store 0x18 1 0x07 ∷ [])
+    -- SSK, R1 low byte 3F, swap word 0, old key 04, valid page: key 38; bit 20 zero: word 08003E00
+    ∷ ssk 0x000000 (setKey 0 0x38 ∷ store 0xe0 4 0x08003e00 ∷ [])
+    -- bit 20 one: 0200003E
+    ∷ ssk 0x000800 (setKey 1 0x38 ∷ store 0xe0 4 0x0200003e ∷ [])
+    ∷ []
+
+-- Every row gives what document 01 says: the ending, the count, the next address, and every byte and key.
+abbrev pub EdgesHold : Type 0
+EdgesHold = map (λ r. seen (attempt (r .machine) (r .call))) edges ≡ map (λ r. r .gives) edges

@@ -1,0 +1,103 @@
+-- A small machine with a guest's control blocks and tables, on which the edges are computed.
+use Prim.Native.Nat.{ℕ, zero, suc, _+_, _*_, _^_}
+use mathlib.Core.Bool.{Bool, cond}
+use mathlib.Core.List.{List, [], _∷_, _++_}
+use lib.ListN.{replicate}
+use Rattle.rules.specs.Machine.{Machine, Write, store, performAll}
+use Rattle.rules.specs.Guest.{Guest, instructionAddress}
+use Rattle.rules.specs.Endings.{Numbers, numbers}
+use Rattle.rules.specs.Completion.{Call}
+use Rattle.rules.specs.Attempt.{Result}
+
+-- virtual control registers from r on, each holding its number plus one
+abbrev registersFrom : (at r n : ℕ) → List Write
+registersFrom at r zero = []
+registersFrom at r (suc n) = store at 4 (r + 1) ∷ registersFrom (at + 4) (r + 1) n
+
+-- Two blocks, each with key 04. MICBLOK at 08; the virtual PSW at 18; an instruction at 1C, whose second halfword names
+-- the operand at 20; ECBLOK at 60; a segment table at C0, a page table at D0, a swap table at E0, all for frame 0.
+-- Then what a case has of its own.
+abbrev pub machineWith : List Write → Machine
+machineWith own = performAll (record { storage = replicate 4096 0; keys = 0x04 ∷ 0x04 ∷ [] })
+    (store 0x08 4 0xc0
+    ∷ store 0x0c 4 0x60
+    ∷ store 0x10 4 0x18
+    ∷ store 0x1e 2 0x20
+    ∷ store 0xc0 4 0xd0
+    ∷ store 0xcc 4 0xe0
+    ∷ registersFrom 0x60 0 16 ++ own)
+
+-- The EC mode and the problem state, key zero, the instruction at an address; R1 holds 3F, R2 an address.
+abbrev pub guestWith : (instruction r2 cr6 : ℕ) → Guest
+guestWith instruction r2 cr6 = record {
+  psw = 2 ^ 51 + 2 ^ 48 + instruction;
+  general = 0 ∷ 0x3f ∷ r2 ∷ [];
+  cr0 = 0;
+  cr1 = 0;
+  cr6 = cr6;
+}
+
+abbrev pub callOf : Guest → (first : ℕ) (installed : Bool) → Call
+callOf guest first installed = record { guest = guest; first = first; installed = installed }
+
+-- a call of the guest whose MICBLOK is at 08, with the instruction at 1C
+abbrev pub callWith : (first r2 : ℕ) (installed : Bool) → Call
+callWith first r2 installed = callOf (guestWith 0x1c r2 0x80000008) first installed
+
+-- MICVPSW, with or without its pending bit
+abbrev pub vpswAt : (pending : Bool) (address : ℕ) → Write
+vpswAt pending address = store 0x10 4 (cond pending 0x80000000 0 + address)
+
+-- the first halfword of a virtual PSW in the EC mode, and in the BC mode, whose byte 0 is given
+abbrev pub ec : ℕ → ℕ
+ec old = old * 256 + 8
+
+abbrev pub bc : ℕ → ℕ
+bc old = old * 256
+
+-- what is compared: the ending's numbers, the count, the next instruction's address, every byte and every key
+pub record Seen : Type 0 where
+  pub ending : Numbers
+  pub count : ℕ
+  pub next : ℕ
+  pub after : Machine
+
+abbrev pub seen : Result → Seen
+seen r = record {
+  ending = numbers (r .answer .ending);
+  count = r .answer .count;
+  next = instructionAddress (r .answer .guest);
+  after = r .after;
+}
+
+-- one row of a table: a call on a machine, and what it is to give
+pub record Row : Type 0 where
+  pub machine : Machine
+  pub call : Call
+  pub gives : Seen
+
+-- a row that completes with these writes
+abbrev pub completes : Machine → Call → (count next : ℕ) → List Write → Row
+completes m c count next writes = record {
+  machine = m;
+  call = c;
+  gives = record {
+    ending = record { number = 0; code = 0; address = 0 };
+    count = count;
+    next = next;
+    after = performAll m writes;
+  };
+}
+
+-- a row that ends otherwise, and leaves all as it was
+abbrev pub endsWith : Machine → Call → (number code count : ℕ) → Row
+endsWith m c number code count = record {
+  machine = m;
+  call = c;
+  gives = record {
+    ending = record { number = number; code = code; address = 0 };
+    count = count;
+    next = instructionAddress (c .guest);
+    after = m;
+  };
+}

@@ -1,0 +1,94 @@
+//! Every edge of document 01, section "Edges to show", as a concrete call.
+
+mod impostors;
+mod mask_edges;
+mod storage_key_edges;
+mod store_control_edges;
+mod wrong_turns;
+
+use crate::attempt::{Answer, Instruction};
+use crate::call::{changes, Change, Request, StorageImage};
+use crate::setup::Setup;
+
+/// One edge: a call, after earlier calls on the same storage where it belongs to a list.
+pub struct Edge {
+    /// The case in words; no two edges have the same instruction and case.
+    pub case: String,
+    /// Marked (*) in document 01.
+    pub marked: bool,
+    pub image: StorageImage,
+    pub earlier: Vec<Request>,
+    pub request: Request,
+}
+
+/// What an edge gives.
+pub struct EdgeResult {
+    pub answer: Answer,
+    pub bytes: Vec<Change>,
+    pub keys: Vec<Change>,
+}
+
+impl Edge {
+    fn new(marked: bool, case: &str, setup: &Setup) -> Edge {
+        Edge {
+            case: case.into(),
+            marked,
+            image: setup.image.clone(),
+            earlier: Vec::new(),
+            request: setup.request(),
+        }
+    }
+
+    pub fn mnemonic(&self) -> &'static str {
+        Instruction::of_first_halfword(self.request.first_halfword).map_or("other", Instruction::mnemonic)
+    }
+
+    /// Make the earlier calls, then the edge's own; the changes are those of the edge's own call.
+    pub fn run(&self) -> EdgeResult {
+        let mut storage = self.image.storage();
+        let mut keys = self.image.key_bytes();
+        for request in &self.earlier {
+            request.make(&mut storage, &mut keys);
+        }
+        let (storage_before, keys_before) = (storage.clone(), keys.clone());
+        let answer = self.request.make(&mut storage, &mut keys);
+        EdgeResult { answer, bytes: changes(&storage_before, &storage), keys: changes(&keys_before, &keys) }
+    }
+
+    /// One readable line.
+    pub fn line(&self) -> String {
+        let result = self.run();
+        let ending = result.answer.ending;
+        format!(
+            "{:5} {}{} | ending {} {} | count {} | next {:06X} | {}{}",
+            self.mnemonic(),
+            if self.marked { "(*) " } else { "" },
+            self.case,
+            ending.number(),
+            ending.words(),
+            result.answer.count(),
+            result.answer.guest.instruction_address(),
+            change_words("bytes", 6, &result.bytes),
+            change_words("; keys", 1, &result.keys),
+        )
+    }
+}
+
+fn change_words(title: &str, digits: usize, list: &[Change]) -> String {
+    if list.is_empty() {
+        return format!("{title}: none");
+    }
+    let words: Vec<String> =
+        list.iter().map(|(place, old, new)| format!("{place:0digits$X}: {old:02X} -> {new:02X}")).collect();
+    format!("{title}: {}", words.join(", "))
+}
+
+/// All edges.
+pub fn all() -> Vec<Edge> {
+    let mut edges = store_control_edges::edges();
+    edges.extend(mask_edges::edges());
+    edges.extend(storage_key_edges::edges());
+    edges.extend(wrong_turns::edges());
+    edges.extend(impostors::edges());
+    edges
+}

@@ -1,0 +1,186 @@
+//! Calls built so that they complete.
+
+use super::draft::{Draft, Role};
+use super::tables::Mapping;
+use crate::address::{add, subtract};
+use crate::attempt::Instruction;
+
+/// Draft a request for one instruction, with all that it needs in storage.
+pub fn build(draft: &mut Draft, instruction: Instruction) {
+    draft.first_halfword = u16::from(instruction.operation_code()) << 8 | u16::from(draft.random.byte());
+    draft.expanded = draft.random.percent(50);
+    let micblok = draft.allocate(12, 8, 0);
+    draft.guest.control_register_6 |= micblok;
+    if instruction == Instruction::SetStorageKey {
+        super::build_key::build_set_storage_key(draft, micblok);
+        return;
+    }
+    let bit_2 = draft.random.below(2);
+    draft.guest.control_register_6 |= bit_2 << 29;
+    let pending = draft.random.percent(30);
+    put_control_blocks(draft, micblok, instruction, pending);
+    let halfword = draft.allocate(2, 2, 0);
+    draft.note(Role::SecondHalfword, halfword);
+    let mut mapping = draft.guest.dat_on().then(|| Mapping::new(draft));
+    let halfword_logical = logical_of(draft, &mut mapping, halfword);
+    draft.guest.psw_32_63 |= subtract(halfword_logical, 2);
+    permit(draft, halfword, false);
+    let operand = match instruction {
+        Instruction::StoreControl => store_control_operand(draft, &mut mapping),
+        _ => byte_operand(draft, &mut mapping, instruction, pending),
+    };
+    if let Some(mapping) = &mapping {
+        mapping.put_tables(draft);
+    }
+    put_second_halfword(draft, halfword, operand);
+}
+
+/// MICCREG, MICVPSW, virtual registers and virtual PSW; bits 0-7 that are not used are random.
+fn put_control_blocks(draft: &mut Draft, micblok: u32, instruction: Instruction, pending: bool) {
+    if instruction != Instruction::StoreThenAnd && instruction != Instruction::StoreThenOr {
+        let alignment = draft.block_alignment();
+        let ecblok = draft.allocate(64, alignment, 0);
+        let high = draft.random.word() & 0xFF00_0000;
+        draft.image.put_word(add(micblok, 4), high | ecblok);
+        draft.note(Role::Miccreg, add(micblok, 4));
+        for number in 0..16 {
+            let bit_1 =
+                if number == 0 && instruction == Instruction::SetSystemMask { 0x4000_0000 } else { 0 };
+            let value = draft.random.word() & !bit_1;
+            draft.image.put_word(add(ecblok, 4 * number), value);
+            draft.note(Role::VirtualRegister, add(ecblok, 4 * number));
+        }
+    }
+    let alignment = draft.block_alignment();
+    let virtual_psw = draft.allocate(2, alignment, 0);
+    let pending_bit = if pending { 0x8000_0000 } else { 0 };
+    let high = draft.random.word() & 0x7F00_0000;
+    draft.image.put_word(add(micblok, 8), pending_bit | high | virtual_psw);
+    draft.note(Role::Micvpsw, add(micblok, 8));
+    let value = draft.random.word() as u16;
+    draft.image.put_halfword(virtual_psw, value);
+    draft.note(Role::VirtualPsw, virtual_psw);
+}
+
+fn logical_of(draft: &mut Draft, mapping: &mut Option<Mapping>, real: u32) -> u32 {
+    match mapping {
+        Some(mapping) => mapping.logical_of_real(draft, real),
+        None => real,
+    }
+}
+
+/// Make the key of a block permit a fetch or a store.
+fn permit(draft: &mut Draft, real: u32, store: bool) {
+    let (number, psw_key) = (real / 2048, draft.guest.psw_key() as u8);
+    let key = draft.image.key(number);
+    if psw_key == 0 || key >> 4 == psw_key {
+        return;
+    }
+    let permitted = if store || draft.random.percent(50) { key & 0x0F | psw_key << 4 } else { key & !0x08 };
+    draft.image.put_key(number, permitted);
+}
+
+/// The operand byte of SSM, STNSM and STOSM, with mask values that complete; gives its logical address.
+fn byte_operand(
+    draft: &mut Draft,
+    mapping: &mut Option<Mapping>,
+    instruction: Instruction,
+    pending: bool,
+) -> u32 {
+    let virtual_psw = draft.find(&[Role::VirtualPsw]).map_or(0, |place| place.address);
+    let old = draft.image.byte(virtual_psw);
+    let ec_mode = draft.image.byte(add(virtual_psw, 1)) & 0x08 != 0;
+    let store = instruction != Instruction::SetSystemMask;
+    let real = if store && draft.random.percent(15) {
+        add(virtual_psw, draft.random.below(2))
+    } else {
+        draft.allocate(1, 1, 0)
+    };
+    draft.note(Role::Operand, real);
+    permit(draft, real, store);
+    let value = completing_value(draft, instruction, (old, ec_mode), pending);
+    if store {
+        draft.first_halfword = draft.first_halfword & 0xFF00 | u16::from(value);
+    } else {
+        draft.image.put(real, &[value]);
+    }
+    logical_of(draft, mapping, real)
+}
+
+/// New mask (SSM) or immediate (STNSM, STOSM) with which the instruction completes.
+fn completing_value(draft: &mut Draft, instruction: Instruction, old: (u8, bool), pending: bool) -> u8 {
+    let (old, ec_mode) = old;
+    let value = draft.random.byte();
+    match (instruction, ec_mode, pending) {
+        (Instruction::SetSystemMask, true, false) => old & 0x44 | value & 0x03,
+        (Instruction::SetSystemMask, true, true) => old & 0x44 | value & old & 0x03,
+        (Instruction::SetSystemMask, false, true) => value & old,
+        (Instruction::StoreThenAnd, true, _) => value | old & 0x44,
+        (Instruction::StoreThenOr, _, true) => value & old,
+        (Instruction::StoreThenOr, true, false) => value & (old | 0x03),
+        _ => value,
+    }
+}
+
+/// The operand words of STCTL; gives the logical address of the first.
+fn store_control_operand(draft: &mut Draft, mapping: &mut Option<Mapping>) -> u32 {
+    let (r1, r3) = (draft.first_halfword >> 4 & 15, draft.first_halfword & 15);
+    let words = 1 + (u32::from(r3) + 16 - u32::from(r1)) % 16;
+    let start = match mapping {
+        Some(mapping) => mapped_words(draft, mapping, words),
+        None => draft.allocate(4 * words, 4, 0),
+    };
+    for word in 0..words {
+        let logical = add(start, 4 * word);
+        let real = mapping.as_ref().map_or(logical, |mapping| real_of(mapping, logical));
+        draft.note(Role::Operand, real);
+        permit(draft, real, true);
+    }
+    start
+}
+
+fn real_of(mapping: &Mapping, logical: u32) -> u32 {
+    let frame = mapping.frame_of(logical >> mapping.shifts.page).unwrap_or(0);
+    (frame << mapping.shifts.page) | (logical % mapping.page_size())
+}
+
+/// Logical words in one page or across the end of one, each page in a frame that has the words in storage.
+fn mapped_words(draft: &mut Draft, mapping: &mut Mapping, words: u32) -> u32 {
+    let page_size = mapping.page_size();
+    for _ in 0..60 {
+        let offset = if draft.random.percent(35) {
+            page_size - 4 * (1 + draft.random.below(words.min(16)))
+        } else {
+            draft.random.below(page_size.min(draft.size()) / 4) * 4
+        };
+        let page = mapping.candidate_page(draft);
+        let start = add(page << mapping.shifts.page, offset);
+        let mut trial = mapping.clone();
+        let fits = (0..words).all(|word| {
+            let logical = add(start, 4 * word);
+            let page = logical >> mapping.shifts.page;
+            if trial.frame_of(page).is_none() {
+                let frame = draft.random.below(draft.size().div_ceil(page_size));
+                trial.add_page(page, frame);
+            }
+            draft.contains(real_of(&trial, logical), 4)
+        });
+        if fits {
+            *mapping = trial;
+            return start;
+        }
+    }
+    0
+}
+
+/// Base and displacement that give the operand's logical address.
+fn put_second_halfword(draft: &mut Draft, halfword: u32, operand: u32) {
+    let base_0 = operand < 0x1000 && draft.random.percent(50);
+    let base = if base_0 { 0 } else { 1 + draft.random.below(15) };
+    let displacement = if base_0 { operand } else { draft.random.below(0x1000) };
+    if base != 0 {
+        let high = draft.random.word() & 0xFF00_0000;
+        draft.guest.general_registers[base as usize] = high | subtract(operand, displacement);
+    }
+    draft.image.put_halfword(halfword, (base << 12 | displacement) as u16);
+}

@@ -1,0 +1,148 @@
+//! Segment and page tables for the logical pages that a drafted call uses.
+
+use super::draft::{Draft, Role};
+use crate::address::{add, subtract};
+
+/// Sizes as shifts: 11 or 12, 16 or 20.
+#[derive(Clone, Copy, Debug)]
+pub struct Shifts {
+    pub page: u32,
+    pub segment: u32,
+}
+
+impl Shifts {
+    /// Control register 0 bits 8-12 for this format.
+    fn control_bits(self) -> u32 {
+        let page_bits = if self.page == 12 { 0b10000 } else { 0b01000 };
+        page_bits | if self.segment == 20 { 0b00010 } else { 0 }
+    }
+
+    fn page_index(self, logical: u32) -> u32 {
+        (logical >> self.page) & ((1 << (self.segment - self.page)) - 1)
+    }
+
+    fn leftmost_four(self, logical: u32) -> u32 {
+        (logical >> (self.segment - 4)) & 15
+    }
+}
+
+/// Logical pages with their frames.
+#[derive(Clone, Debug)]
+pub struct Mapping {
+    pub shifts: Shifts,
+    pages: Vec<(u32, u32)>,
+}
+
+impl Mapping {
+    /// A random format, put in control register 0.
+    pub fn new(draft: &mut Draft) -> Mapping {
+        let shifts = Shifts { page: draft.random.pick(&[11, 12]), segment: draft.random.pick(&[16, 20]) };
+        draft.guest.control_register_0 =
+            (draft.guest.control_register_0 & 0xFF07_FFFF) | shifts.control_bits() << 19;
+        Mapping { shifts, pages: Vec::new() }
+    }
+
+    pub fn page_size(&self) -> u32 {
+        1 << self.shifts.page
+    }
+
+    /// A logical address for an item at a real address, by a page mapped already or a new one.
+    pub fn logical_of_real(&mut self, draft: &mut Draft, real: u32) -> u32 {
+        let frame = real >> self.shifts.page;
+        for _ in 0..40 {
+            let page = self.candidate_page(draft);
+            if self.add_page(page, frame) {
+                return (page << self.shifts.page) | (real % self.page_size());
+            }
+        }
+        real
+    }
+
+    /// A page number: near one mapped already, at an end of the logical storage, or anywhere.
+    pub fn candidate_page(&mut self, draft: &mut Draft) -> u32 {
+        let pages = 1 << (24 - self.shifts.page);
+        let pages_of_segment = 1 << (self.shifts.segment - self.shifts.page);
+        let first = self.pages.first().map(|&(page, _)| page);
+        let page = match (first, draft.random.below(20)) {
+            (Some(page), 0..=1) => page,
+            (Some(page), 2..=6) => page.wrapping_add(1 + draft.random.below(4)),
+            (Some(page), 7..=9) => page - page % pages_of_segment + draft.random.below(pages_of_segment),
+            (Some(page), 10..=14) => page.wrapping_add(pages_of_segment * (1 + draft.random.below(3))),
+            (Some(page), 15) => page.wrapping_add(pages / 16),
+            (_, 16) => draft.random.pick(&[0, 1, pages - 1, pages - 2]),
+            _ => draft.random.below(pages),
+        };
+        page % pages
+    }
+
+    /// Map a page; false if it is in another frame already.
+    pub fn add_page(&mut self, page: u32, frame: u32) -> bool {
+        if let Some(&(_, known)) = self.pages.iter().find(|&&(one, _)| one == page) {
+            return known == frame;
+        }
+        self.pages.push((page, frame));
+        true
+    }
+
+    pub fn frame_of(&self, page: u32) -> Option<u32> {
+        self.pages.iter().find(|&&(one, _)| one == page).map(|&(_, frame)| frame)
+    }
+
+    /// Put the segment table and the page tables in storage, and control register 1.
+    pub fn put_tables(&self, draft: &mut Draft) {
+        let mut segments: Vec<u32> = self.pages.iter().map(|&(page, _)| self.segment_of_page(page)).collect();
+        segments.sort_unstable();
+        segments.dedup();
+        let origin = table_origin(draft, &segments, 4, 64);
+        let highest = self.pages.iter().map(|&(page, _)| page << self.shifts.page >> 20).max().unwrap_or(0);
+        let length = highest + draft.random.pick(&[0, 0, 1, 200]);
+        let other_bits = draft.random.below(64);
+        draft.guest.control_register_1 = length << 24 | origin | other_bits;
+        for segment in segments {
+            self.put_page_table(draft, origin, segment);
+        }
+    }
+
+    fn put_page_table(&self, draft: &mut Draft, segment_table: u32, segment: u32) {
+        let shifts = self.shifts;
+        let pages: Vec<(u32, u32)> =
+            self.pages.iter().copied().filter(|&(page, _)| self.segment_of_page(page) == segment).collect();
+        let indexes: Vec<u32> =
+            pages.iter().map(|&(page, _)| shifts.page_index(page << shifts.page)).collect();
+        let origin = table_origin(draft, &indexes, 2, 8);
+        let highest = pages.iter().map(|&(page, _)| shifts.leftmost_four(page << shifts.page)).max();
+        let length = (highest.unwrap_or(0) + draft.random.pick(&[0, 0, 1, 15])).min(15);
+        let entry_address = add(segment_table, 4 * segment);
+        let other_bits = draft.random.pick(&[0, 2, 4, 6]);
+        draft.image.put_word(entry_address, length << 28 | origin | other_bits);
+        draft.note(Role::SegmentEntry, entry_address);
+        for ((_, frame), index) in pages.into_iter().zip(indexes) {
+            let entry = frame << (shifts.page - 8) | draft.random.below(2);
+            draft.image.put_halfword(add(origin, 2 * index), entry as u16);
+            draft.note(Role::PageEntry, add(origin, 2 * index));
+        }
+    }
+
+    fn segment_of_page(&self, page: u32) -> u32 {
+        page >> (self.shifts.segment - self.shifts.page)
+    }
+}
+
+/// An origin, on its boundary, that has all these entries in storage where nothing else is, if one is found.
+fn table_origin(draft: &mut Draft, indexes: &[u32], width: u32, boundary: u32) -> u32 {
+    let Some(&first) = indexes.first() else {
+        return 0;
+    };
+    let mut origin = 0;
+    for _ in 0..200 {
+        let place = draft.candidate(width, boundary, width * first % boundary);
+        origin = subtract(place, width * first);
+        if indexes.iter().all(|&index| draft.free(add(origin, width * index), width)) {
+            break;
+        }
+    }
+    for &index in indexes {
+        draft.take(add(origin, width * index), width);
+    }
+    origin
+}

@@ -1,0 +1,70 @@
+//! The guest's record: real PSW, general registers, real control registers 0, 1 and 6.
+
+use crate::address;
+use crate::bits::{word_bit, word_bits};
+
+/// The record that goes in by value and is handed back.
+#[derive(Clone, Copy, Debug, PartialEq, Eq)]
+pub struct Guest {
+    /// PSW bits 0-31.
+    pub psw_0_31: u32,
+    /// PSW bits 32-63.
+    pub psw_32_63: u32,
+    pub general_registers: [u32; 16],
+    pub control_register_0: u32,
+    pub control_register_1: u32,
+    pub control_register_6: u32,
+}
+
+impl Guest {
+    /// PSW bits 40-63.
+    pub fn instruction_address(&self) -> u32 {
+        word_bits(self.psw_32_63, 8, 31)
+    }
+
+    /// PSW bit 5.
+    pub fn dat_on(&self) -> bool {
+        word_bit(self.psw_0_31, 5)
+    }
+
+    /// PSW bits 8-11.
+    pub fn psw_key(&self) -> u32 {
+        word_bits(self.psw_0_31, 8, 11)
+    }
+
+    /// PSW bit 12.
+    pub fn ec_mode(&self) -> bool {
+        word_bit(self.psw_0_31, 12)
+    }
+
+    /// PSW bit 15.
+    pub fn problem_state(&self) -> bool {
+        word_bit(self.psw_0_31, 15)
+    }
+
+    /// A general register; only the four rightmost bits of the number are used.
+    pub fn general_register(&self, number: u32) -> u32 {
+        self.general_registers[(number & 15) as usize]
+    }
+
+    /// The displacement plus bits 8-31 of the base register, where base 0 means zero.
+    /// The second halfword's bits 0-3 name the base, 4-15 are the displacement.
+    pub fn effective_address(&self, second_halfword: u16) -> u32 {
+        let base = u32::from(second_halfword >> 12);
+        let displacement = u32::from(second_halfword & 0x0FFF);
+        let base_address = if base == 0 { 0 } else { word_bits(self.general_register(base), 8, 31) };
+        address::add(base_address, displacement)
+    }
+
+    /// The MICBLOK address: bits 8-28 of control register 6, then three zeros.
+    pub fn micblok_address(&self) -> u32 {
+        word_bits(self.control_register_6, 8, 28) << 3
+    }
+
+    /// The record after completion: instruction address moved on, modulo 2^24; nothing else changes.
+    pub fn moved_on(&self, length: u32) -> Guest {
+        let bits_32_39 = self.psw_32_63 & !address::ADDRESS_MASK;
+        let next = address::add(self.instruction_address(), length);
+        Guest { psw_32_63: bits_32_39 | next, ..*self }
+    }
+}

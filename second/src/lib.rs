@@ -1,0 +1,26 @@
+//! Independent second implementation, from document 01 alone, of five instructions of the assist.
+
+pub mod access;
+pub mod address;
+pub mod attempt;
+pub mod bits;
+pub mod call;
+pub mod control_block;
+pub mod edges;
+pub mod ending;
+pub mod generate;
+pub mod guest;
+pub mod machine;
+pub mod report;
+pub mod set_storage_key;
+pub mod set_system_mask;
+pub mod setup;
+pub mod store_control;
+pub mod store_then_mask;
+pub mod translation;
+
+pub use attempt::{attempt, Answer, Instruction};
+pub use call::{Call, Request, StorageImage};
+pub use ending::{Ending, Exception};
+pub use guest::Guest;
+pub use machine::{Reference, ReferenceKind};

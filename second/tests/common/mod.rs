@@ -1,0 +1,73 @@
+//! Running a set-up and checking what it gives.
+#![allow(dead_code)]
+
+use second::call::{changes, Change};
+use second::setup::Setup;
+use second::{Answer, ReferenceKind};
+
+pub const COMPLETED: (u32, u32, u32) = (0, 0, 0);
+pub const REFUSED: (u32, u32, u32) = (1, 2, 0);
+pub const PROTECTION: (u32, u32, u32) = (1, 4, 0);
+pub const ADDRESSING: (u32, u32, u32) = (1, 5, 0);
+pub const SPECIFICATION: (u32, u32, u32) = (1, 18, 0);
+pub const EXPANDED: (u32, u32, u32) = (2, 0, 0);
+
+pub fn segment_translation(logical_address: u32) -> (u32, u32, u32) {
+    (1, 16, logical_address)
+}
+
+pub fn page_translation(logical_address: u32) -> (u32, u32, u32) {
+    (1, 17, logical_address)
+}
+
+pub fn not_in_storage(step: u32) -> (u32, u32, u32) {
+    (3, step, 0)
+}
+
+/// What a set-up gives.
+pub struct Ran {
+    pub answer: Answer,
+    pub bytes: Vec<Change>,
+    pub keys: Vec<Change>,
+}
+
+impl Ran {
+    pub fn kinds(&self) -> Vec<ReferenceKind> {
+        self.answer.references.iter().map(|reference| reference.kind).collect()
+    }
+
+    /// The bytes that an entry names.
+    pub fn named_bytes(&self, entry: usize) -> &[u32] {
+        &self.answer.references[entry].bytes
+    }
+
+    /// The key that an entry names.
+    pub fn named_key(&self, entry: usize) -> Option<u32> {
+        self.answer.references[entry].key
+    }
+}
+
+pub fn run(setup: &Setup) -> Ran {
+    let (storage_before, keys_before) = (setup.image.storage(), setup.image.key_bytes());
+    let (mut storage, mut keys) = (storage_before.clone(), keys_before.clone());
+    let answer = setup.request().make(&mut storage, &mut keys);
+    Ran { answer, bytes: changes(&storage_before, &storage), keys: changes(&keys_before, &keys) }
+}
+
+/// Run and check ending, count, and that only completion changes anything.
+pub fn expect(setup: &Setup, ending: (u32, u32, u32), count: usize) -> Ran {
+    let ran = run(setup);
+    let given = ran.answer.ending;
+    assert_eq!((given.number(), given.code_or_step(), given.logical_address()), ending);
+    assert_eq!(ran.answer.count(), count);
+    let mut record = setup.guest;
+    if ending.0 == 0 {
+        let length = if setup.first_halfword >> 8 == 0x08 { 2 } else { 4 };
+        let next = (setup.guest.psw_32_63 & 0x00FF_FFFF).wrapping_add(length) & 0x00FF_FFFF;
+        record.psw_32_63 = (setup.guest.psw_32_63 & 0xFF00_0000) | next;
+    } else {
+        assert_eq!((&ran.bytes[..], &ran.keys[..]), (&[][..], &[][..]));
+    }
+    assert_eq!(ran.answer.guest, record);
+    ran
+}

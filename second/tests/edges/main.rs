@@ -1,0 +1,57 @@
+//! Every edge against values worked out by hand from document 01.
+//!
+//! Set-up (see `setup.rs`): 16 KiB, PSW key zero, DAT off, instruction at 1000, operand at 2000, MICBLOK at 400,
+//! ECBLOK at 500, virtual PSW at 600. Virtual register r is the word A0B0C0D0 + r times 01010101.
+
+mod expected;
+mod section;
+mod wrong_turns;
+
+use expected::Expected;
+use second::edges::all;
+use section::*;
+use wrong_turns::*;
+
+fn expectations() -> Vec<Expected> {
+    let mut list = store_control();
+    list.extend(set_system_mask());
+    list.extend(store_then());
+    list.extend(set_storage_key());
+    list.extend(wrong_turns_1_and_2());
+    list.extend(wrong_turn_3());
+    list.extend(wrong_turn_4());
+    list.extend(impostors());
+    list
+}
+
+#[test]
+fn every_edge_gives_what_the_paper_says() {
+    let expectations = expectations();
+    let edges = all();
+    assert_eq!(edges.len(), expectations.len());
+    for expected in &expectations {
+        let named: Vec<_> =
+            edges.iter().filter(|edge| (edge.mnemonic(), edge.case.as_str()) == expected.name).collect();
+        assert_eq!(named.len(), 1, "{:?}", expected.name);
+        let result = named[0].run();
+        let ending = result.answer.ending;
+        let given = (ending.number(), ending.code_or_step(), ending.logical_address());
+        assert_eq!(given, expected.ending, "{:?}", expected.name);
+        assert_eq!(result.answer.count(), expected.count, "{:?}", expected.name);
+        assert_eq!(result.bytes, expected.bytes, "{:?}", expected.name);
+        assert_eq!(result.keys, expected.keys, "{:?}", expected.name);
+        let record = result.answer.guest;
+        assert_eq!(record.instruction_address(), expected.next, "{:?}", expected.name);
+        let mut alike = named[0].request.guest;
+        alike.psw_32_63 = record.psw_32_63;
+        assert_eq!(record, alike, "nothing else in the record changes: {:?}", expected.name);
+    }
+}
+
+#[test]
+fn every_edge_has_one_line() {
+    for edge in all() {
+        let line = edge.line();
+        assert!(line.starts_with(edge.mnemonic()) && !line.contains('\n') && line.contains(&edge.case));
+    }
+}

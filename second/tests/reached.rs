@@ -1,0 +1,109 @@
+//! Everything that can be reached, written by hand from document 01, against random calls of one seed.
+
+use std::collections::BTreeSet;
+
+use second::report::{Outcome, Point, Tally};
+
+const SEED: u64 = 20_260_401;
+const CALLS: u64 = 20_000;
+
+const STORE_THEN: [&str; 2] = ["STNSM", "STOSM"];
+
+/// Ending 0, 1 with each code, 2, 3 with each step, 9 to 13.
+fn outcomes_by_hand() -> BTreeSet<(Outcome, &'static str)> {
+    let mut table = BTreeSet::new();
+    let mut row = |mnemonic, outcomes: &[Outcome]| {
+        table.extend(outcomes.iter().map(|&outcome| (outcome, mnemonic)));
+    };
+    let codes = [(1, 2), (1, 4), (1, 5), (1, 16), (1, 17), (1, 18)];
+    for mnemonic in ["SSM", "STCTL", "STNSM", "STOSM", "SSK"] {
+        row(mnemonic, &[(0, 0), (9, 0), (10, 0), (11, 0), (12, 0)]);
+    }
+    row("other", &[(10, 0), (11, 0), (12, 0), (13, 0)]);
+    row("SSM", &codes);
+    row("SSM", &[(2, 0), (3, 2), (3, 3), (3, 7), (3, 8)]);
+    row("STCTL", &codes);
+    row("STCTL", &[(3, 2), (3, 5)]);
+    for mnemonic in STORE_THEN {
+        row(mnemonic, &codes);
+        row(mnemonic, &[(2, 0), (3, 2), (3, 3)]);
+    }
+    // SSK reports no access exception: every field that it fetches is a control field.
+    row("SSK", &[(1, 2), (3, 2), (3, 5), (3, 7), (3, 8), (3, 9), (3, 11)]);
+    table
+}
+
+/// Codes of a logical access with the step of the walk; 7 is the real address, 8 protection.
+const ACCESS: [(u32, u8); 11] =
+    [(18, 1), (16, 2), (5, 3), (16, 3), (18, 3), (17, 4), (5, 5), (17, 5), (18, 5), (5, 7), (4, 8)];
+
+/// The same with the step at which the attempt ends.
+fn points_by_hand() -> BTreeSet<Point> {
+    let mut table: BTreeSet<Point> = BTreeSet::new();
+    for mnemonic in ["SSM", "STCTL", "STNSM", "STOSM", "SSK"] {
+        table.extend([9, 10, 11, 12].map(|number| (mnemonic, (number, 0), 0, 0)));
+        table.insert((mnemonic, (1, 2), 1, 0));
+    }
+    table.extend([10, 11, 12, 13].map(|number| ("other", (number, 0), 0, 0)));
+    // Steps at which ending 3, refusals, "expanded" and completion are given.
+    table.extend([2, 3, 7, 8].map(|step| ("SSM", (3, u32::from(step)), step, 0)));
+    table.extend([
+        ("SSM", (1, 2), 4, 0),
+        ("SSM", (1, 2), 9, 0),
+        ("SSM", (2, 0), 9, 0),
+        ("SSM", (0, 0), 10, 0),
+    ]);
+    table.extend([2, 5].map(|step| ("STCTL", (3, u32::from(step)), step, 0)));
+    table.extend([("STCTL", (1, 2), 4, 0), ("STCTL", (0, 0), 5, 0)]);
+    for mnemonic in STORE_THEN {
+        table.extend([2, 3].map(|step| (mnemonic, (3, u32::from(step)), step, 0)));
+        table.extend([(mnemonic, (1, 2), 4, 0), (mnemonic, (2, 0), 4, 0), (mnemonic, (0, 0), 7, 0)]);
+    }
+    table.extend([2, 5, 7, 8, 9, 11].map(|step| ("SSK", (3, u32::from(step)), step, 0)));
+    table.extend([3, 4, 6, 10].map(|step| ("SSK", (1, 2), step, 0)));
+    table.insert(("SSK", (0, 0), 12, 0));
+    // Logical accesses. At the operand walk step 1 cannot fail: the second halfword has passed it.
+    for (code, walk_step) in ACCESS {
+        table.insert(("SSM", (1, code), 5, walk_step));
+        table.insert(("STCTL", (1, code), 3, walk_step));
+        for mnemonic in STORE_THEN {
+            table.insert((mnemonic, (1, 2), 5, walk_step));
+        }
+        if walk_step != 1 {
+            table.insert(("SSM", (1, code), 6, walk_step));
+            table.insert(("STCTL", (1, code), 5, walk_step));
+            for mnemonic in STORE_THEN {
+                table.insert((mnemonic, (1, code), 6, walk_step));
+            }
+        }
+    }
+    table
+}
+
+#[test]
+fn random_calls_reach_everything_and_nothing_else() {
+    let tally = Tally::of_random_calls(SEED, CALLS);
+    let outcomes: BTreeSet<_> = tally.outcomes.keys().copied().collect();
+    assert_eq!(outcomes, outcomes_by_hand());
+    let points: BTreeSet<_> = tally.points.keys().copied().collect();
+    let by_hand = points_by_hand();
+    let missing: Vec<_> = by_hand.difference(&points).collect();
+    let extra: Vec<_> = points.difference(&by_hand).collect();
+    assert!(missing.is_empty() && extra.is_empty(), "missing {missing:?}, extra {extra:?}");
+    assert_eq!(tally.highest_count, 85);
+    let share = 100 * tally.completed / tally.calls;
+    assert!((40..=60).contains(&share), "{share} % completed");
+}
+
+#[test]
+fn every_format_completes_in_every_instruction() {
+    let tally = Tally::of_random_calls(SEED + 1, 5_000);
+    for mnemonic in ["SSM", "STCTL", "STNSM", "STOSM"] {
+        for state in ["DAT off", "DAT on, 2K, 64K", "DAT on, 2K, 1M", "DAT on, 4K, 64K", "DAT on, 4K, 1M"] {
+            assert!(tally.translation[&(mnemonic, state)].1 > 20, "{mnemonic} {state}");
+        }
+    }
+    for state in ["MICRSEG, 4K, 64K", "MICRSEG, 4K, 1M"] {
+        assert!(tally.translation[&("SSK", state)].1 > 20, "SSK {state}");
+    }
+}

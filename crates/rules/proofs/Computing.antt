@@ -3,7 +3,7 @@ use Rattle.rules.specs.Steps.{_>>=_, fetchBytes, consultKey, stopIf, end
 use Rattle.rules.specs.Translation.{formatOf, segmentEntry, pageAddress, translate}
 use Rattle.rules.specs.Access.{realOf, access, storeTest, logicalFetch, secondHalfword}
 use Rattle.rules.specs.ControlFields.{controlWord, controlHalfword, micrseg, miccreg, micvpsw}
-use Rattle.rules.specs.Completion.{complete}
+use Rattle.rules.specs.Call.{complete}
 use Rattle.rules.specs.SetSystemMask.{maskOperand, replaceMask, setSystemMask}
 use Rattle.rules.specs.StoreControl.{virtualRegisters, operandWords, storeRegisters, storeControl}
 use Rattle.rules.specs.StoreThenMask.{storeMasks, storeThen}

@@ -7,7 +7,7 @@ pub mod Attempt
 use Prim.Native.Nat.{ℕ, _+_, _^_, _≤_, _<_}
 use native.Mathlib.Omega.{arith}
 use mathlib.Core.Path.{_≡_, refl}
-use mathlib.Core.Bool.{Bool, true, false, true≢false}
+use mathlib.Core.Bool.{Bool, true, false, cond, true≢false}
 use lib.ListN.{length}
 use lib.Dec.{eqb}
 use Rattle.rules.specs.Guest.{Guest, advance}
@@ -23,11 +23,10 @@ use Rattle.rules.specs.Endings.{
   Expanded,
   numbers,
   refuse,
-  expanded,
 }
 use Rattle.rules.specs.Steps.{Steps, _>>=_, fetchBytes, consultKey, stopIf}
 use Rattle.rules.specs.Access.{realOf, access, logicalFetch}
-use Rattle.rules.specs.Completion.{Call, Completion}
+use Rattle.rules.specs.Call.{Call, expanded, Completion}
 use Rattle.rules.specs.Theorems.Answers.{table, listed, Possible, instructionLength}
 use Rattle.rules.proofs.Computing.{walking}
 use Rattle.rules.proofs.Within.{Within, Any, within-then}
@@ -48,9 +47,12 @@ pub stops : {op : ℕ} {e : Ending} → listed (table op) (numbers e .number) (n
     → numbers e .address ≡ 0 → eqb (numbers e .number) 0 ≡ false → Stops op e
 stops l z n = record { possible = possible l z; short = n }
 
-pub stops-expanded : (op : ℕ) → Stops op Expanded → Stops op refuse → (installed : Bool) → Stops op (expanded installed)
-stops-expanded op h k true = h
-stops-expanded op h k false = k
+pub stops-expanded : (op : ℕ) → Stops op Expanded → Stops op refuse → (c : Call) → Stops op (expanded c)
+stops-expanded op h k c = go (c .installed)
+  where
+    go : (b : Bool) → Stops op (cond b Expanded refuse)
+    go true = h
+    go false = k
 
 -- the exceptions of an access to an address all have E
 pub record Exceptions (E : Ending → Type 0) (a : ℕ) : Type 0 where

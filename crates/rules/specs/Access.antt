@@ -3,7 +3,7 @@ use Prim.Native.Nat.{ℕ, _/_}
 use mathlib.Core.Bool.{Bool, not, _||_}
 use lib.Dec.{eqb}
 use Rattle.rules.specs.Endings.{Protection, Addressing, Interruption}
-use Rattle.rules.specs.Guest.{Guest, instructionAddress, translates, pswKey}
+use Rattle.rules.specs.Guest.{Guest, instructionAddress, datOn, pswKey}
 use Rattle.rules.specs.Bits.{bits, bit}
 use Rattle.rules.specs.Machine.{_⊕_}
 use Rattle.rules.specs.References.{protection}
@@ -12,7 +12,7 @@ use Rattle.rules.specs.Translation.{translate}
 
 -- with DAT off a logical address is real
 unfoldable pub realOf : Guest → (address : ℕ) → Steps ℕ
-realOf g a = branch (translates g) (translate (g .cr0) (g .cr1) a) (done a)
+realOf g a = branch (datOn g) (translate (g .cr0) (g .cr1) a) (done a)
 
 -- what protection sees of a key is five bits: 0-3 the access bits, 4 the fetch bit
 abbrev pub storePasses : (pswKey key : ℕ) → Bool

@@ -19,7 +19,7 @@ use Rattle.rules.specs.Machine.{Machine, performAll}
 use Rattle.rules.specs.References.{Reference, entry}
 use Rattle.rules.specs.Steps.{Steps, stop, branch, _>>=_, _>>_, stopIf}
 use Rattle.rules.specs.Run.{Outcome, ended, gave, Run, run}
-use Rattle.rules.specs.Completion.{Call, operation, Completion}
+use Rattle.rules.specs.Call.{Call, operation, Completion}
 use Rattle.rules.specs.SetSystemMask.{setSystemMask}
 use Rattle.rules.specs.StoreControl.{storeControl}
 use Rattle.rules.specs.StoreThenMask.{storeThenAnd, storeThenOr}

@@ -2,7 +2,7 @@
 use mathlib.Core.List.{List, [], _∷_, _++_}
 use Rattle.rules.specs.Machine.{Machine}
 use Rattle.rules.specs.References.{Reference}
-use Rattle.rules.specs.Completion.{Call}
+use Rattle.rules.specs.Call.{Call}
 use Rattle.rules.specs.Attempt.{Answer, attempt}
 
 abbrev pub answers : Machine → List Call → List Answer

@@ -1,6 +1,5 @@
 -- The numbered endings: document 01's number, code or step, and logical address for each case of the enum.
 use Prim.Native.Nat.{ℕ}
-use mathlib.Core.Bool.{Bool, cond}
 pub use Rattle.rules.specs.declared.endings.Exception.{Exception}
 pub use Rattle.rules.specs.declared.endings.Exception.the-variants.{
   PrivilegedOperation,
@@ -52,7 +51,3 @@ numbers NotAssisted = record { number = 13; code = 0; address = 0 }
 -- document 01's "refuse"
 abbrev pub refuse : Ending
 refuse = Interruption PrivilegedOperation
-
--- document 01's "expanded": handed over where the expanded assist is installed, else refused
-abbrev pub expanded : (installed : Bool) → Ending
-expanded installed = cond installed Expanded refuse

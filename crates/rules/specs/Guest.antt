@@ -12,8 +12,8 @@ use Rattle.rules.specs.Machine.{_⊕_}
 abbrev pub instructionAddress : Guest → ℕ
 instructionAddress g = bits 64 40 63 (g .psw)
 
-abbrev pub translates : Guest → Bool
-translates g = bit 64 5 (g .psw)
+abbrev pub datOn : Guest → Bool
+datOn g = bit 64 5 (g .psw)
 
 abbrev pub pswKey : Guest → ℕ
 pswKey g = bits 64 8 11 (g .psw)

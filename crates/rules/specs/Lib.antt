@@ -10,7 +10,7 @@ pub mod Translation
 pub mod Access
 pub mod ControlFields
 pub mod Masks
-pub mod Completion
+pub mod Call
 pub mod SetSystemMask
 pub mod StoreControl
 pub mod StoreThenMask

@@ -29,14 +29,14 @@ use Rattle.rules.specs.References.{whole}
 use Rattle.rules.specs.Guest.{register}
 use Rattle.rules.specs.Steps.{Steps, branch, _>>=_, _>>_, consultKey, stopIf}
 use Rattle.rules.specs.ControlFields.{controlWord, controlHalfword, micrseg, addressIn}
-use Rattle.rules.specs.Completion.{Call, r1, r3, Completion, complete}
+use Rattle.rules.specs.Call.{Call, r1, r2, Completion, complete}
 
 -- the word in R1, whose bits 24-30 are the key; the word in R2, whose bits 8-31 are the address
 abbrev pub keyWord : Call → ℕ
 keyWord c = register (c .guest) (r1 c)
 
 abbrev pub addressWord : Call → ℕ
-addressWord c = register (c .guest) (r3 c)
+addressWord c = register (c .guest) (r2 c)
 
 -- 4K pages; bit 31 of MICRSEG chooses 1M segments
 abbrev pub formatIn : (rseg : ℕ) → Format

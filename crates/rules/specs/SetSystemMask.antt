@@ -7,12 +7,12 @@ use lib.Dec.{eqb}
 use Rattle.rules.specs.Bits.{bit, word}
 use Rattle.rules.specs.Machine.{store}
 use Rattle.rules.specs.Guest.{effective}
-use Rattle.rules.specs.Endings.{refuse, expanded}
+use Rattle.rules.specs.Endings.{refuse}
 use Rattle.rules.specs.Steps.{Steps, _>>=_, _>>_, stopIf}
 use Rattle.rules.specs.Access.{logicalFetch, secondHalfword}
 use Rattle.rules.specs.ControlFields.{controlWord, controlHalfword, miccreg, micvpsw, addressIn, pending}
 use Rattle.rules.specs.Masks.{maskIn, extendedIn, atAny, allBits, rises, changes}
-use Rattle.rules.specs.Completion.{Call, Completion, complete}
+use Rattle.rules.specs.Call.{Call, expanded, Completion, complete}
 
 -- steps 1 to 6: the operand byte
 unfoldable pub maskOperand : Call → Steps ℕ
@@ -43,7 +43,7 @@ replaceMask c new = do
   vpsw ← micvpsw 7 (c .guest)  -- 7
   first ← controlHalfword 8 (addressIn vpsw)  -- 8
   let ec = extendedIn first
-  stopIf (ec && maskNeedsExpanded (pending vpsw) (maskIn first) new) (expanded (c .installed))  -- 9
+  stopIf (ec && maskNeedsExpanded (pending vpsw) (maskIn first) new) (expanded c)  -- 9
   stopIf (not ec && maskRefused (pending vpsw) (maskIn first) new) refuse
   complete c 4 (store (addressIn vpsw) 1 new ∷ [])  -- 10
 

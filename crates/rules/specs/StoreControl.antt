@@ -11,7 +11,7 @@ use Rattle.rules.specs.Endings.{refuse}
 use Rattle.rules.specs.Steps.{Steps, done, _>>=_, _>>_, stopIf}
 use Rattle.rules.specs.Access.{storeTest, secondHalfword}
 use Rattle.rules.specs.ControlFields.{controlWord, miccreg, addressIn}
-use Rattle.rules.specs.Completion.{Call, r1, r3, Completion, complete}
+use Rattle.rules.specs.Call.{Call, r1, r3, Completion, complete}
 
 -- step 1, of STNSM and STOSM too: control register 6 bits 0-3 are 10X0
 abbrev pub assistsControl : Guest → Bool

@@ -7,13 +7,13 @@ use mathlib.Core.List.{[], _∷_}
 use lib.Bits.{bitAnd, bitOr}
 use Rattle.rules.specs.Machine.{store}
 use Rattle.rules.specs.Guest.{effective}
-use Rattle.rules.specs.Endings.{refuse, expanded}
+use Rattle.rules.specs.Endings.{refuse}
 use Rattle.rules.specs.Steps.{Steps, _>>=_, _>>_, stopIf, endingAs}
 use Rattle.rules.specs.Access.{storeTest, secondHalfword}
 use Rattle.rules.specs.ControlFields.{controlHalfword, micvpsw, addressIn, pending}
 use Rattle.rules.specs.Masks.{maskIn, extendedIn, atAny, allBits, rises, falls}
 use Rattle.rules.specs.StoreControl.{assistsControl}
-use Rattle.rules.specs.Completion.{Call, immediate, Completion, complete}
+use Rattle.rules.specs.Call.{Call, expanded, immediate, Completion, complete}
 
 -- step 4: what the new mask is, and when the expanded assist is needed for it
 pub record MaskChange : Type 0 where
@@ -46,7 +46,7 @@ storeThen change c = do
   first ← controlHalfword 3 (addressIn vpsw)  -- 3
   let old = maskIn first
   let new = change .newMask old (immediate c)
-  stopIf (change .needsExpanded (extendedIn first) (pending vpsw) old new) (expanded (c .installed))  -- 4
+  stopIf (change .needsExpanded (extendedIn first) (pending vpsw) old new) (expanded c)  -- 4
   storeMasks c (addressIn vpsw) old new
 
 abbrev pub storeThenAnd : Call → Steps Completion

@@ -9,7 +9,7 @@ use borrow.Author.Tests.{eqb-true}
 use Rattle.rules.specs.Machine.{Machine}
 use Rattle.rules.specs.Endings.{NotAssisted}
 use Rattle.rules.specs.Steps.{Steps, _>>=_, _>>_, stopIf}
-use Rattle.rules.specs.Completion.{Call, operation, Completion}
+use Rattle.rules.specs.Call.{Call, operation, Completion}
 use Rattle.rules.specs.SetSystemMask.{setSystemMask}
 use Rattle.rules.specs.StoreControl.{storeControl}
 use Rattle.rules.specs.StoreThenMask.{andMask, orMask, storeThen}

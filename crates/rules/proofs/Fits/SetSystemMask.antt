@@ -7,14 +7,13 @@ use Rattle.rules.specs.Guest.{effective, instructionAddress}
 use Rattle.rules.specs.Steps.{_>>=_, fetchBytes, stopIf}
 use Rattle.rules.specs.Access.{secondHalfword}
 use Rattle.rules.specs.ControlFields.{controlWord, miccreg}
-use Rattle.rules.specs.Completion.{Call}
+use Rattle.rules.specs.Call.{Call}
 use Rattle.rules.specs.SetSystemMask.{maskOperand, replaceMask, setSystemMask}
 use Rattle.rules.proofs.Computing.{masking}
 use Rattle.rules.proofs.Within.{Within, Any, within-then}
 use Rattle.rules.proofs.Fits.{
   completes,
   Stops,
-  possible,
   stops,
   stops-expanded,
   Exceptions,
@@ -54,7 +53,7 @@ replaceMask-fits c new = (
   λ vpsw. (
     stops refl refl refl,
     λ first. (
-      λ t. stops-expanded 0x80 (stops refl refl refl) (stops refl refl refl) (c .installed),
+      λ t. stops-expanded 0x80 (stops refl refl refl) (stops refl refl refl) c,
       λ t. (λ t. stops refl refl refl, λ t. completes refl refl (omega arith)),
     ),
   ),

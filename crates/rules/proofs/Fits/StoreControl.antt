@@ -9,7 +9,7 @@ use Rattle.rules.specs.Guest.{Guest, effective, instructionAddress}
 use Rattle.rules.specs.Steps.{_>>=_, fetchBytes, stopIf}
 use Rattle.rules.specs.Access.{access, storeTest, secondHalfword}
 use Rattle.rules.specs.ControlFields.{controlWord, miccreg, addressIn}
-use Rattle.rules.specs.Completion.{Call, r1, r3, complete}
+use Rattle.rules.specs.Call.{Call, r1, r3, complete}
 use Rattle.rules.specs.StoreControl.{
   registerCount,
   virtualRegisters,
@@ -22,7 +22,6 @@ use Rattle.rules.proofs.Within.{Within, within-then}
 use Rattle.rules.proofs.Fits.{
   completes,
   Stops,
-  possible,
   stops,
   Exceptions,
   access-within,

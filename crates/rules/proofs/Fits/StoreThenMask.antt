@@ -9,7 +9,7 @@ use Rattle.rules.specs.Endings.{Completed, Expanded, FieldMissing, refus
 use Rattle.rules.specs.Steps.{_>>=_, fetchBytes, stopIf, endingAs}
 use Rattle.rules.specs.Access.{access, storeTest, secondHalfword}
 use Rattle.rules.specs.ControlFields.{controlWord, controlHalfword, micvpsw}
-use Rattle.rules.specs.Completion.{Call, complete}
+use Rattle.rules.specs.Call.{Call, complete}
 use Rattle.rules.specs.StoreThenMask.{MaskChange, storeMasks, storeThen}
 use Rattle.rules.specs.Theorems.Answers.{Possible, instructionLength}
 use Rattle.rules.proofs.Within.{Any, within-endingAs}
@@ -55,7 +55,7 @@ storeThen-fits op t change c = (
     t .missing .0,
     λ vpsw. (
       t .missing .1,
-      λ first. (λ x. stops-expanded op (t .handed) (t .refused) (c .installed), λ x. storeMasks-fits op t c _ _ _),
+      λ first. (λ x. stops-expanded op (t .handed) (t .refused) c, λ x. storeMasks-fits op t c _ _ _),
     ),
   ),
 )

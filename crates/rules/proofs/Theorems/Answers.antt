@@ -7,7 +7,7 @@ use borrow.Author.Tests.{eq-eqb}
 use Rattle.rules.specs.Machine.{Machine}
 use Rattle.rules.specs.References.{Reference}
 use Rattle.rules.specs.Run.{Outcome, ended, gave}
-use Rattle.rules.specs.Completion.{Call, operation, Completion}
+use Rattle.rules.specs.Call.{Call, operation, Completion}
 use Rattle.rules.specs.Attempt.{conclude, reading}
 use Rattle.rules.specs.Theorems.Answers.{Answered, EveryCallAnswered}
 use Rattle.rules.proofs.Within.{Came}

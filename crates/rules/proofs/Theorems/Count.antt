@@ -7,7 +7,7 @@ use lib.ListN.{length, length-append, length-map}
 use Rattle.rules.specs.Machine.{Machine}
 use Rattle.rules.specs.References.{Reference}
 use Rattle.rules.specs.Run.{Outcome, ended, gave}
-use Rattle.rules.specs.Completion.{Call, operation, Completion}
+use Rattle.rules.specs.Call.{Call, operation, Completion}
 use Rattle.rules.specs.Attempt.{conclude, reading}
 use Rattle.rules.specs.Theorems.Count.{CountBounded, BoundReached}
 use Rattle.rules.proofs.Computing.{computing}

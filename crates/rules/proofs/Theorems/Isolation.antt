@@ -9,7 +9,7 @@ use Rattle.rules.specs.References.{seenAs, Reference, fetched, consulted
 use Rattle.rules.specs.Guest.{Guest}
 use Rattle.rules.specs.Steps.{_>>_}
 use Rattle.rules.specs.Run.{Outcome, ended, gave, run}
-use Rattle.rules.specs.Completion.{Call, Completion}
+use Rattle.rules.specs.Call.{Call, Completion}
 use Rattle.rules.specs.Attempt.{sizesFit, program, conclude, reading, attempt}
 use Rattle.rules.specs.Calls.{answers, left, references}
 use Rattle.rules.specs.Theorems.Isolation.{

@@ -9,7 +9,7 @@ use lib.Dec.{eqb}
 use borrow.Author.Tests.{eqb-true, eqb-false}
 use Rattle.rules.specs.Machine.{Machine, store}
 use Rattle.rules.specs.Endings.{Ending}
-use Rattle.rules.specs.Completion.{Call}
+use Rattle.rules.specs.Call.{Call}
 use Rattle.rules.specs.Theorems.Samples.{machineWith, guestWith, callOf, callWith, vpswAt, ec, bc}
 use Rattle.rules.specs.Theorems.WrongPrograms.{
   Differs,

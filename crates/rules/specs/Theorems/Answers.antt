@@ -10,7 +10,7 @@ use lib.Dec.{eqb}
 use Rattle.rules.specs.Machine.{Machine}
 use Rattle.rules.specs.Guest.{advance}
 use Rattle.rules.specs.Endings.{Ending, Numbers, numbers}
-use Rattle.rules.specs.Completion.{Call, operation}
+use Rattle.rules.specs.Call.{Call, operation}
 use Rattle.rules.specs.Attempt.{Result, attempt}
 
 -- a number of the table, and the codes or steps that it can carry

@@ -5,7 +5,7 @@ use mathlib.Core.Bool.{true}
 use mathlib.Core.List.{[]}
 use lib.ListN.{length}
 use Rattle.rules.specs.Machine.{Machine}
-use Rattle.rules.specs.Completion.{Call}
+use Rattle.rules.specs.Call.{Call}
 use Rattle.rules.specs.Attempt.{attempt}
 use Rattle.rules.specs.Theorems.Samples.{machineWith, guestWith, callOf}
 

@@ -1,12 +1,10 @@
 -- The marked edges of document 01, "Edges to show": one table, under one statement. Numbers are hex; DAT off.
 -- Edges that document 01 calls expanded stand with the expanded assist installed and not.
 use Prim.Native.Nat.{ℕ}
-use mathlib.Core.Path.{_≡_}
 use mathlib.Core.Bool.{Bool, true, false}
-use mathlib.Core.List.{List, [], _∷_, map}
+use mathlib.Core.List.{List, [], _∷_}
 use Rattle.rules.specs.Machine.{Machine, Write, store, setKey}
-use Rattle.rules.specs.Attempt.{attempt}
-use Rattle.rules.specs.Theorems.Samples.{Row, seen, completes, endsWith, machineWith, callWith, vpswAt, ec, bc}
+use Rattle.rules.specs.Theorems.Samples.{Row, Hold, completes, endsWith, machineWith, callWith, vpswAt, ec, bc}
 
 -- the virtual PSW and the operand byte
 abbrev masks : (pending : Bool) (first operand : ℕ) → Machine
@@ -75,4 +73,4 @@ edges =
 
 -- Every row gives what document 01 says: the ending, the count, the next address, and every byte and key.
 abbrev pub EdgesHold : Type 0
-EdgesHold = map (λ r. seen (attempt (r .machine) (r .call))) edges ≡ map (λ r. r .gives) edges
+EdgesHold = Hold edges

@@ -6,7 +6,7 @@ use mathlib.Core.List.{List, [], _∷_}
 use lib.ListN.{length, getD}
 use Rattle.rules.specs.Machine.{Machine, addresses}
 use Rattle.rules.specs.References.{Reference, fetched, consulted, wrote, keySet, bytesOf, keysOf}
-use Rattle.rules.specs.Completion.{Call}
+use Rattle.rules.specs.Call.{Call}
 use Rattle.rules.specs.Calls.{answers, left, references}
 
 -- P holds of every element

@@ -1,12 +1,10 @@
 -- Ending 3 at each control field of each instruction: the step that it carries, and the count before it.
 -- One table, under one statement. Storage ends at 1000.
 use Prim.Native.Nat.{ℕ}
-use mathlib.Core.Path.{_≡_}
 use mathlib.Core.Bool.{true}
-use mathlib.Core.List.{List, [], _∷_, map}
+use mathlib.Core.List.{List, [], _∷_}
 use Rattle.rules.specs.Machine.{Write, store}
-use Rattle.rules.specs.Attempt.{attempt}
-use Rattle.rules.specs.Theorems.Samples.{Row, seen, endsWith, machineWith, guestWith, callOf, callWith}
+use Rattle.rules.specs.Theorems.Samples.{Row, Hold, endsWith, machineWith, guestWith, callOf, callWith}
 
 -- a MICBLOK at another address
 abbrev blockAt : (micblok first step count : ℕ) → List Write → Row
@@ -36,7 +34,7 @@ missingFields =
     ∷ blockAt 0x80001000 0xad00 2 0 []
     ∷ fieldAt 0xad00 3 1 (store 0x10 4 0x0fff ∷ [])
     -- SSK: MICRSEG; the segment entry; the swap-table address, before a page table at 000000; the swap word;
-    -- the page entry, with the page table at the end of storage; the key block, of frame FF0
+    -- the page entry, with the page table at the end of storage; the key block, of frame 0FF
     ∷ blockAt 0x80001000 0x0812 2 0 []
     ∷ fieldAt 0x0812 5 1 (store 0x08 4 0x1000 ∷ [])
     ∷ fieldAt 0x0812 7 2 (store 0xc0 4 0x0000 ∷ [])
@@ -46,4 +44,4 @@ missingFields =
     ∷ []
 
 abbrev pub StepsCarried : Type 0
-StepsCarried = map (λ r. seen (attempt (r .machine) (r .call))) missingFields ≡ map (λ r. r .gives) missingFields
+StepsCarried = Hold missingFields

@@ -1,13 +1,14 @@
 -- A small machine with a guest's control blocks and tables, on which the edges are computed.
 use Prim.Native.Nat.{ℕ, zero, suc, _+_, _*_, _^_}
 use mathlib.Core.Bool.{Bool, cond}
-use mathlib.Core.List.{List, [], _∷_, _++_}
+use mathlib.Core.Path.{_≡_}
+use mathlib.Core.List.{List, [], _∷_, _++_, map}
 use lib.ListN.{replicate}
 use Rattle.rules.specs.Machine.{Machine, Write, store, performAll}
 use Rattle.rules.specs.Guest.{Guest, instructionAddress}
 use Rattle.rules.specs.Endings.{Numbers, numbers}
-use Rattle.rules.specs.Completion.{Call}
-use Rattle.rules.specs.Attempt.{Result}
+use Rattle.rules.specs.Call.{Call}
+use Rattle.rules.specs.Attempt.{Result, attempt}
 
 -- virtual control registers from r on, each holding its number plus one
 abbrev registersFrom : (at r n : ℕ) → List Write
@@ -31,7 +32,7 @@ machineWith own = performAll (record { storage = replicate 4096 0; keys = 0x04 �
 abbrev pub guestWith : (instruction r2 cr6 : ℕ) → Guest
 guestWith instruction r2 cr6 = record {
   psw = 2 ^ 51 + 2 ^ 48 + instruction;
-  general = 0 ∷ 0x3f ∷ r2 ∷ [];
+  general = 0 ∷ 0x3f ∷ r2 ∷ replicate 13 0;
   cr0 = 0;
   cr1 = 0;
   cr6 = cr6;
@@ -75,6 +76,10 @@ pub record Row : Type 0 where
   pub machine : Machine
   pub call : Call
   pub gives : Seen
+
+-- every row of a table gives what it is to give
+abbrev pub Hold : List Row → Type 0
+Hold rows = map (λ r. seen (attempt (r .machine) (r .call))) rows ≡ map (λ r. r .gives) rows
 
 -- a row that completes with these writes
 abbrev pub completes : Machine → Call → (count next : ℕ) → List Write → Row

@@ -9,13 +9,13 @@ use lib.Dec.{eqb}
 use Rattle.rules.specs.Machine.{Machine, _⊕_, store, perform}
 use Rattle.rules.specs.References.{Reference, wrote}
 use Rattle.rules.specs.Guest.{effective, advance}
-use Rattle.rules.specs.Endings.{Ending, Completed, WrongMode, OddInstructionAddress, refuse, expanded}
+use Rattle.rules.specs.Endings.{Ending, Completed, WrongMode, OddInstructionAddress, refuse}
 use Rattle.rules.specs.Steps.{Steps, done, branch, _>>=_, _>>_, stopIf, endingAs}
 use Rattle.rules.specs.Run.{ended, gave, either, run}
 use Rattle.rules.specs.Access.{storeTest, secondHalfword}
 use Rattle.rules.specs.ControlFields.{controlHalfword, miccreg, micvpsw, addressIn, pending}
 use Rattle.rules.specs.Masks.{maskIn, extendedIn}
-use Rattle.rules.specs.Completion.{Call, operation, r1, r3, immediate, Completion, complete}
+use Rattle.rules.specs.Call.{Call, expanded, operation, r1, r3, immediate, Completion, complete}
 use Rattle.rules.specs.SetSystemMask.{maskOperand, maskNeedsExpanded, maskRefused}
 use Rattle.rules.specs.StoreControl.{assistsControl, registerCount, virtualRegisters}
 use Rattle.rules.specs.StoreThenMask.{andMask}
@@ -59,7 +59,7 @@ pendingInAddress c = do
   vpsw ← micvpsw 7 (c .guest)
   first ← controlHalfword 8 vpsw
   let ec = extendedIn first
-  stopIf (ec && maskNeedsExpanded (pending vpsw) (maskIn first) new) (expanded (c .installed))
+  stopIf (ec && maskNeedsExpanded (pending vpsw) (maskIn first) new) (expanded c)
   stopIf (not ec && maskRefused (pending vpsw) (maskIn first) new) refuse
   complete c 4 (store vpsw 1 new ∷ [])
 
@@ -112,7 +112,7 @@ storeThenAndBy finish c = do
   first ← controlHalfword 3 (addressIn vpsw)
   let old = maskIn first
   let new = andMask .newMask old (immediate c)
-  stopIf (andMask .needsExpanded (extendedIn first) (pending vpsw) old new) (expanded (c .installed))
+  stopIf (andMask .needsExpanded (extendedIn first) (pending vpsw) old new) (expanded c)
   finish c (addressIn vpsw) first old new
 
 -- reporting the second halfword's exception as itself

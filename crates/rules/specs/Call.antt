@@ -1,10 +1,11 @@
--- A call, and what its completion leaves to do.
+-- A call: its fields, and what its completion leaves to do.
 use Prim.Native.Nat.{ℕ}
-use mathlib.Core.Bool.{Bool}
+use mathlib.Core.Bool.{Bool, cond}
 use mathlib.Core.List.{List}
 use Rattle.rules.specs.Guest.{Guest, advance}
 use Rattle.rules.specs.Bits.{halfword}
 use Rattle.rules.specs.Machine.{Write}
+use Rattle.rules.specs.Endings.{Ending, Expanded, refuse}
 use Rattle.rules.specs.Steps.{Steps, done}
 
 -- the record, the first halfword, and whether the expanded assist is installed
@@ -16,15 +17,22 @@ pub record Call : Type 0 where
 abbrev pub operation : Call → ℕ
 operation c = halfword 0 7 (c .first)
 
--- bits 8-11; bits 12-15, R2 or R3; bits 8-15
 abbrev pub r1 : Call → ℕ
 r1 c = halfword 8 11 (c .first)
 
+-- R2 of the RR format is R3 of the RS format
+abbrev pub r2 : Call → ℕ
+r2 c = halfword 12 15 (c .first)
+
 abbrev pub r3 : Call → ℕ
-r3 c = halfword 12 15 (c .first)
+r3 = r2
 
 abbrev pub immediate : Call → ℕ
 immediate c = halfword 8 15 (c .first)
+
+-- document 01's "expanded": handed over where the expanded assist is installed, else refused
+abbrev pub expanded : Call → Ending
+expanded c = cond (c .installed) Expanded refuse
 
 -- the record handed back, and the writes in order
 pub record Completion : Type 0 where

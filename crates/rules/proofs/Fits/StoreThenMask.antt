@@ -11,7 +11,7 @@ use Rattle.rules.specs.Access.{access, storeTest, secondHalfword}
 use Rattle.rules.specs.ControlFields.{controlWord, controlHalfword, micvpsw}
 use Rattle.rules.specs.Call.{Call, complete}
 use Rattle.rules.specs.StoreThenMask.{MaskChange, storeMasks, storeThen}
-use Rattle.rules.specs.Theorems.Answers.{Possible, instructionLength}
+use Rattle.rules.specs.Theorems.Answers.{table, listed, Possible, instructionLength}
 use Rattle.rules.proofs.Within.{Any, within-endingAs}
 use Rattle.rules.proofs.Fits.{
   Stops,
@@ -60,22 +60,16 @@ storeThen-fits op t change c = (
   ),
 )
 
-pub maskTable-and : MaskTable 0xac
-maskTable-and = record {
-  accesses = (refl, refl, refl, refl, refl);
-  completed = possible refl refl;
-  refused = stops refl refl refl;
-  handed = stops refl refl refl;
-  missing = (stops refl refl refl, stops refl refl refl);
-  length = refl;
-}
-
-pub maskTable-or : MaskTable 0xad
-maskTable-or = record {
-  accesses = (refl, refl, refl, refl, refl);
-  completed = possible refl refl;
-  refused = stops refl refl refl;
-  handed = stops refl refl refl;
-  missing = (stops refl refl refl, stops refl refl refl);
-  length = refl;
-}
+-- for an operation code whose table is STNSM's
+pub maskTable : {op : ℕ} → table op ≡ table 0xac → instructionLength op ≡ 4 → MaskTable op
+maskTable {op} e l =
+    let same : (number code : ℕ) → listed (table op) number code ≡ listed (table 0xac) number code =
+    λ number code. ap (λ t. listed t number code) e in
+    record {
+      accesses = (same 1 4, same 1 5, same 1 16, same 1 17, same 1 18);
+      completed = possible (same 0 0) refl;
+      refused = stops (same 1 2) refl refl;
+      handed = stops (same 2 0) refl refl;
+      missing = (stops (same 3 2) refl refl, stops (same 3 3) refl refl);
+      length = l;
+    }

@@ -1,7 +1,7 @@
 -- The wrong programs, each computed beside the definition at one call.
 use Prim.Native.Nat.{ℕ}
 use native.Mathlib.Omega.{arith}
-use mathlib.Core.Path.{_≡_, refl, ap}
+use mathlib.Core.Path.{_≡_, refl, sym, ap, _∙_}
 use mathlib.Core.Bool.{Bool, true, false}
 use mathlib.Core.List.{[], _∷_}
 use lib.ListN.{getD}
@@ -12,6 +12,7 @@ use Rattle.rules.specs.Endings.{Ending}
 use Rattle.rules.specs.Call.{Call}
 use Rattle.rules.specs.Theorems.Samples.{machineWith, guestWith, callOf, callWith, vpswAt, ec, bc}
 use Rattle.rules.specs.Theorems.WrongPrograms.{
+  Program,
   Differs,
   DiffersOnList,
   WrongProgramsDiffer,
@@ -80,21 +81,22 @@ edge = machineWith (store 0x18 2 (ec 0x04) ∷ store 0x20 1 0x07 ∷ [])
 abbrev ssm : Call
 ssm = callWith 0x8000 0 true
 
-always-ends : (e : Ending) → Differs (alwaysEnds e)
+-- one that leaves all as it was there
+unchanged : (wrong : Program) → wrong edge ssm .after ≡ edge → Differs wrong
 unfolding computing
-always-ends e = record {
+unchanged wrong e = record {
   machine = edge;
   call = ssm;
-  differ = λ h. let z : _≡_ {A = ℕ} 4 7 = ap (λ s. byteAt 0x18 (s .after)) h in omega arith;
+  differ = λ h.
+      let z : _≡_ {A = ℕ} 4 7 = sym (ap (byteAt 0x18) e) ∙ ap (λ s. byteAt 0x18 (s .after)) h in
+      omega arith;
 }
 
+always-ends : (e : Ending) → Differs (alwaysEnds e)
+always-ends e = unchanged (alwaysEnds e) refl
+
 stores-nothing : Differs storesNothing
-unfolding computing
-stores-nothing = record {
-  machine = edge;
-  call = ssm;
-  differ = λ h. let z : _≡_ {A = ℕ} 4 7 = ap (λ s. byteAt 0x18 (s .after)) h in omega arith;
-}
+stores-nothing = unchanged storesNothing refl
 
 -- the count of that edge is 9, and with an odd instruction address 0
 invents-count : (n : ℕ) → Differs (inventsCount n)

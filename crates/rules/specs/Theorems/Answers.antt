@@ -28,18 +28,18 @@ alone number = line number (0 ∷ [])
 abbrev interruptions : Line
 interruptions = line 1 (2 ∷ 4 ∷ 5 ∷ 16 ∷ 17 ∷ 18 ∷ [])
 
--- what an instruction can end with once it has begun
-abbrev begun : (operation : ℕ) → List Line
-begun op =
-    cond (eqb op 0x80) (alone 0 ∷ interruptions ∷ alone 2 ∷ line 3 (2 ∷ 3 ∷ 7 ∷ 8 ∷ []) ∷ [])
-    (cond (eqb op 0xb6) (alone 0 ∷ interruptions ∷ line 3 (2 ∷ 5 ∷ []) ∷ [])
-    (cond (eqb op 0xac || eqb op 0xad) (alone 0 ∷ interruptions ∷ alone 2 ∷ line 3 (2 ∷ 3 ∷ []) ∷ [])
-    (cond (eqb op 0x08) (alone 0 ∷ line 1 (2 ∷ []) ∷ line 3 (2 ∷ 5 ∷ 7 ∷ 8 ∷ 9 ∷ 11 ∷ []) ∷ [])
+-- what a call can end with once its operation code is looked at
+abbrev decided : (operation : ℕ) → List Line
+decided op =
+    cond (eqb op 0x80) (alone 9 ∷ alone 0 ∷ interruptions ∷ alone 2 ∷ line 3 (2 ∷ 3 ∷ 7 ∷ 8 ∷ []) ∷ [])
+    (cond (eqb op 0xb6) (alone 9 ∷ alone 0 ∷ interruptions ∷ line 3 (2 ∷ 5 ∷ []) ∷ [])
+    (cond (eqb op 0xac || eqb op 0xad) (alone 9 ∷ alone 0 ∷ interruptions ∷ alone 2 ∷ line 3 (2 ∷ 3 ∷ []) ∷ [])
+    (cond (eqb op 0x08) (alone 9 ∷ alone 0 ∷ line 1 (2 ∷ []) ∷ line 3 (2 ∷ 5 ∷ 7 ∷ 8 ∷ 9 ∷ 11 ∷ []) ∷ [])
     (alone 13 ∷ []))))
 
 -- and what any call can end with before that
 abbrev pub table : (operation : ℕ) → List Line
-table op = alone 9 ∷ alone 10 ∷ alone 11 ∷ alone 12 ∷ begun op
+table op = alone 10 ∷ alone 11 ∷ alone 12 ∷ decided op
 
 abbrev pub among : List ℕ → ℕ → Bool
 among [] n = false

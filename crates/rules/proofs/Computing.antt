@@ -4,10 +4,18 @@ use Rattle.rules.specs.Translation.{formatOf, segmentEntry, pageAddress,
 use Rattle.rules.specs.Access.{realOf, access, storeTest, logicalFetch, secondHalfword}
 use Rattle.rules.specs.ControlFields.{controlWord, controlHalfword, micrseg, miccreg, micvpsw}
 use Rattle.rules.specs.Call.{complete}
-use Rattle.rules.specs.SetSystemMask.{maskOperand, replaceMask, setSystemMask}
-use Rattle.rules.specs.StoreControl.{virtualRegisters, operandWords, storeRegisters, storeControl}
-use Rattle.rules.specs.StoreThenMask.{storeMasks, storeThen}
-use Rattle.rules.specs.SetStorageKey.{storeSwapWord, setBlockKey, setKeyIn, setStorageKey}
+use Rattle.rules.specs.SetSystemMask.{maskOperand, maskTarget, setSystemMask}
+use Rattle.rules.specs.StoreControl.{virtualRegisters, operandWords, controlBlock, wordOperand, storeControl}
+use Rattle.rules.specs.StoreThenMask.{byteOperand, storeThen}
+use Rattle.rules.specs.SetStorageKey.{
+  storeSwapWord,
+  setBlockKey,
+  swapWordAt,
+  pageOf,
+  setKeyIn,
+  segmentTable,
+  setStorageKey,
+}
 use Rattle.rules.specs.Attempt.{sizesFit, assisted, instruction, program}
 
 -- what every instruction reads by
@@ -21,15 +29,15 @@ fetching = tt
 
 -- the instructions
 unfoldable pub masking : Unit {0}
-unfolding fetching maskOperand replaceMask setSystemMask storeMasks storeThen
+unfolding fetching maskOperand maskTarget setSystemMask byteOperand storeThen
 masking = tt
 
 unfoldable pub storing : Unit {0}
-unfolding fetching virtualRegisters operandWords storeRegisters storeControl
+unfolding fetching virtualRegisters operandWords controlBlock wordOperand storeControl
 storing = tt
 
 unfoldable pub keying : Unit {0}
-unfolding fetching storeSwapWord setBlockKey setKeyIn setStorageKey
+unfolding fetching storeSwapWord setBlockKey swapWordAt pageOf setKeyIn segmentTable setStorageKey
 keying = tt
 
 unfoldable pub computing : Unit {0}

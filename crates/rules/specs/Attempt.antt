@@ -14,6 +14,7 @@ use Rattle.rules.specs.Endings.{
   OddInstructionAddress,
   NotAssisted,
 }
+pub use Rattle.rules.specs.declared.answer.Answer.{Answer}
 use Rattle.rules.specs.Guest.{Guest, instructionAddress, extendedControl, problemState}
 use Rattle.rules.specs.Machine.{Machine, performAll}
 use Rattle.rules.specs.References.{Reference, entry}
@@ -71,13 +72,7 @@ program c = do
 
 -- ---- the answer
 
--- the ending with all that it carries, the count of references, and the record handed back
-pub record Answer : Type 0 where
-  pub ending : Ending
-  pub count : ℕ
-  pub guest : Guest
-
--- the answer, the list of references, and the machine afterwards
+-- the answer (the ending with all that it carries, the count of references, the record handed back), the list of references, and the machine afterwards
 pub record Result : Type 0 where
   pub answer : Answer
   pub references : List Reference

@@ -1,18 +1,14 @@
 -- A call: its fields, and what its completion leaves to do.
 use Prim.Native.Nat.{ℕ}
-use mathlib.Core.Bool.{Bool, cond}
+use mathlib.Core.Bool.{cond}
 use mathlib.Core.List.{List}
 use Rattle.rules.specs.Guest.{Guest, advance}
 use Rattle.rules.specs.Bits.{halfword}
 use Rattle.rules.specs.Machine.{Write}
 use Rattle.rules.specs.Endings.{Ending, Expanded, refuse}
 use Rattle.rules.specs.Steps.{Steps, done}
-
 -- the record, the first halfword, and whether the expanded assist is installed
-pub record Call : Type 0 where
-  pub guest : Guest
-  pub first : ℕ
-  pub installed : Bool
+pub use Rattle.rules.specs.declared.call.Call.{Call}
 
 abbrev pub operation : Call → ℕ
 operation c = halfword 0 7 (c .first)

@@ -27,7 +27,7 @@ use Rattle.rules.specs.Bits.{bits, bit, word}
 use Rattle.rules.specs.Machine.{_⊕_, Write, store, setKey}
 use Rattle.rules.specs.References.{whole}
 use Rattle.rules.specs.Guest.{register}
-use Rattle.rules.specs.Steps.{Steps, branch, _>>=_, _>>_, consultKey, stopIf}
+use Rattle.rules.specs.Steps.{Steps, done, branch, _>>=_, _>>_, consultKey, stopIf}
 use Rattle.rules.specs.ControlFields.{controlWord, controlHalfword, micrseg, addressIn}
 use Rattle.rules.specs.Call.{Call, r1, r2, Completion, complete}
 
@@ -73,24 +73,41 @@ setBlockKey c block at w = do
   old ← consultKey whole block (FieldMissing 11)
   storeSwapWord c (setKey block (newKey (keyWord c) old) ∷ []) at w (bits 8 5 6 old)
 
+-- step 7: the address of the swap word, from the word at the page-table origin less 4
+unfoldable pub swapWordAt : Format → (segment address : ℕ) → Steps ℕ
+swapWordAt f segment a = do
+  swapTable ← controlWord 7 (pageTable segment ⊕ (2 ^ 24 - 4))
+  done (addressIn swapTable ⊕ 8 * pageIndex f a)
+
+-- steps 9 and 10: the page entry
+unfoldable pub pageOf : Format → (segment address : ℕ) → Steps ℕ
+pageOf f segment a = do
+  page ← controlHalfword 9 (pageEntryAt f segment a)  -- 9
+  stopIf (not (invalid f page) && malformed f page) refuse  -- 10
+  done page
+
 -- steps 7 to 12, for a format, a segment entry and an address
 unfoldable pub setKeyIn : Call → Format → (segment address : ℕ) → Steps Completion
 setKeyIn c f segment a = do
-  swapTable ← controlWord 7 (pageTable segment ⊕ (2 ^ 24 - 4))  -- 7: the page-table origin less 4
-  let at = addressIn swapTable ⊕ 8 * pageIndex f a
+  at ← swapWordAt f segment a
   swapWord ← controlWord 8 at  -- 8
-  page ← controlHalfword 9 (pageEntryAt f segment a)  -- 9
-  stopIf (not (invalid f page) && malformed f page) refuse  -- 10
+  page ← pageOf f segment a
   branch (invalid f page)  -- 11
       (storeSwapWord c [] at swapWord 0)
       (setBlockKey c (realAddress f page a / 2048) at swapWord)
 
-unfoldable pub setStorageKey : Call → Steps Completion
-setStorageKey c = do
+-- steps 1 to 3: MICRSEG
+unfoldable pub segmentTable : Call → Steps ℕ
+segmentTable c = do
   let g = c .guest
-  let a = word 8 31 (addressWord c)
   stopIf (not (eqb (word 0 2 (g .cr6)) 0b100) || not (eqb (word 28 31 (addressWord c)) 0)) refuse  -- 1
   rseg ← micrseg 2 g  -- 2
   stopIf (bit 32 30 rseg) refuse  -- 3
+  done rseg
+
+unfoldable pub setStorageKey : Call → Steps Completion
+setStorageKey c = do
+  let a = word 8 31 (addressWord c)
+  rseg ← segmentTable c
   segment ← segmentEntry segmentRefusal (formatIn rseg) rseg a  -- 4, 5, 6
   setKeyIn c (formatIn rseg) segment a

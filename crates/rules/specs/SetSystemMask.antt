@@ -8,7 +8,7 @@ use Rattle.rules.specs.Bits.{bit, word}
 use Rattle.rules.specs.Machine.{store}
 use Rattle.rules.specs.Guest.{effective}
 use Rattle.rules.specs.Endings.{refuse}
-use Rattle.rules.specs.Steps.{Steps, _>>=_, _>>_, stopIf}
+use Rattle.rules.specs.Steps.{Steps, done, _>>=_, _>>_, stopIf}
 use Rattle.rules.specs.Access.{logicalFetch, secondHalfword}
 use Rattle.rules.specs.ControlFields.{controlWord, controlHalfword, miccreg, micvpsw, addressIn, pending}
 use Rattle.rules.specs.Masks.{maskIn, extendedIn, atAny, allBits, rises, changes}
@@ -37,17 +37,18 @@ maskNeedsExpanded waiting old new =
 abbrev pub maskRefused : (waiting : Bool) (old new : ℕ) → Bool
 maskRefused waiting old new = waiting && atAny allBits (rises old new)
 
--- steps 7 to 10: the new mask
-unfoldable pub replaceMask : Call → (new : ℕ) → Steps Completion
-replaceMask c new = do
+-- steps 7 to 9: the address of the virtual PSW, where the new mask may be put
+unfoldable pub maskTarget : Call → (new : ℕ) → Steps ℕ
+maskTarget c new = do
   vpsw ← micvpsw 7 (c .guest)  -- 7
   first ← controlHalfword 8 (addressIn vpsw)  -- 8
   let ec = extendedIn first
   stopIf (ec && maskNeedsExpanded (pending vpsw) (maskIn first) new) (expanded c)  -- 9
   stopIf (not ec && maskRefused (pending vpsw) (maskIn first) new) refuse
-  complete c 4 (store (addressIn vpsw) 1 new ∷ [])  -- 10
+  done (addressIn vpsw)
 
 unfoldable pub setSystemMask : Call → Steps Completion
 setSystemMask c = do
   new ← maskOperand c
-  replaceMask c new
+  at ← maskTarget c new
+  complete c 4 (store at 1 new ∷ [])  -- 10

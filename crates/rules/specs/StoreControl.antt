@@ -41,19 +41,25 @@ wordStores [] values = []
 wordStores (real ∷ reals) [] = []
 wordStores (real ∷ reals) (value ∷ values) = store real 4 value ∷ wordStores reals values
 
--- step 5
-unfoldable pub storeRegisters : Call → (ecblok address : ℕ) → Steps Completion
-storeRegisters c ecblok address = do
-  let n = registerCount (r1 c) (r3 c)
-  values ← virtualRegisters ecblok [] (r1 c) n
-  reals ← operandWords (c .guest) [] address n
-  complete c 4 (wordStores reals values)
+-- steps 1 and 2: the address of ECBLOK
+unfoldable pub controlBlock : Guest → Steps ℕ
+controlBlock g = do
+  stopIf (not (assistsControl g)) refuse  -- 1
+  creg ← miccreg 2 g  -- 2
+  done (addressIn creg)
+
+-- steps 3 and 4: the operand's address, on a word
+unfoldable pub wordOperand : Guest → Steps ℕ
+wordOperand g = do
+  second ← secondHalfword g  -- 3
+  stopIf (not (eqb (effective g second % 4) 0)) refuse  -- 4
+  done (effective g second)
 
 unfoldable pub storeControl : Call → Steps Completion
 storeControl c = do
-  let g = c .guest
-  stopIf (not (assistsControl g)) refuse  -- 1
-  creg ← miccreg 2 g  -- 2
-  second ← secondHalfword g  -- 3
-  stopIf (not (eqb (effective g second % 4) 0)) refuse  -- 4
-  storeRegisters c (addressIn creg) (effective g second)  -- 5
+  ecblok ← controlBlock (c .guest)
+  address ← wordOperand (c .guest)
+  let n = registerCount (r1 c) (r3 c)
+  values ← virtualRegisters ecblok [] (r1 c) n  -- 5: the registers, then the tests, and only then the stores
+  reals ← operandWords (c .guest) [] address n
+  complete c 4 (wordStores reals values)

@@ -1,4 +1,6 @@
 // A guest's record: the real PSW, the general registers, and real control registers 0, 1 and 6.
+ghost use mathlib.Core.Path.{_≡_};
+ghost use Rattle.rules.specs.Guest.{instructionAddress, datOn, pswKey, extendedControl, problemState, advance, register, base, effective, micblok};
 
 pub struct Guest {
     pub psw: u64,
@@ -6,4 +8,81 @@ pub struct Guest {
     pub cr0: u32,
     pub cr1: u32,
     pub cr6: u32,
+}
+
+impl Guest {
+    pub fn instruction_address(self) -> u32
+        ensures { λ r. ⌜ r ≡ instructionAddress self ⌝ }
+    {
+        (self.psw % 16777216) as u32
+    }
+
+    pub fn dat_on(self) -> bool
+        ensures { λ r. ⌜ r ≡ datOn self ⌝ }
+    {
+        self.psw / 288230376151711744 % 2 == 1
+    }
+
+    pub fn psw_key(self) -> u32
+        ensures { λ r. ⌜ r ≡ pswKey self ⌝ }
+    {
+        (self.psw / 4503599627370496 % 16) as u32
+    }
+
+    pub fn extended_control(self) -> bool
+        ensures { λ r. ⌜ r ≡ extendedControl self ⌝ }
+    {
+        self.psw / 2251799813685248 % 2 == 1
+    }
+
+    pub fn problem_state(self) -> bool
+        ensures { λ r. ⌜ r ≡ problemState self ⌝ }
+    {
+        self.psw / 281474976710656 % 2 == 1
+    }
+
+    // The record with the instruction address moved on.
+    pub fn advance(self, n: u32) -> Guest
+        ensures { λ r. ⌜ r ≡ advance self n ⌝ }
+    {
+        let mut next = self;
+        let address = crate::sum((self.psw % 16777216) as u32, n);
+        next.psw = self.psw / 16777216 * 16777216 + address as u64;
+        next
+    }
+
+    // General register r; there is none after 15.
+    pub fn register(self, r: u32) -> u32
+        ensures { λ x. ⌜ x ≡ register self r ⌝ }
+    {
+        let i = r as usize;
+        if i < 16 {
+            return self.general[i];
+        }
+        0
+    }
+
+    // Base 0 means zero.
+    pub fn base(self, r: u32) -> u32
+        ensures { λ x. ⌜ x ≡ base self r ⌝ }
+    {
+        if r == 0 {
+            return 0;
+        }
+        self.register(r) % 16777216
+    }
+
+    // The address that a second halfword names.
+    pub fn effective(self, second: u32) -> u32
+        ensures { λ r. ⌜ r ≡ effective self second ⌝ }
+    {
+        crate::sum(second % 4096, self.base(second / 4096 % 16))
+    }
+
+    // The address of MICBLOK.
+    pub fn micblok(self) -> u32
+        ensures { λ r. ⌜ r ≡ micblok self ⌝ }
+    {
+        self.cr6 / 8 % 2097152 * 8
+    }
 }

@@ -1,12 +1,21 @@
-// The types that the rules of document 01 speak of. The rules themselves are definitions, in specs/.
+// The types that the rules of document 01 speak of, and their fields. The rules themselves are definitions, in specs/.
 
+mod addresses;
+mod answer;
+mod call;
 mod endings;
 mod guest;
+mod masks;
 mod tables;
 
+pub use addresses::difference;
+pub use addresses::sum;
+pub use answer::Answer;
+pub use call::Call;
 pub use endings::Ending;
 pub use endings::Exception;
 pub use guest::Guest;
+pub use masks::MaskChange;
 pub use tables::Format;
 pub use tables::PageFault;
 pub use tables::SegmentFault;

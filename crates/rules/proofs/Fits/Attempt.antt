@@ -12,7 +12,7 @@ use Rattle.rules.specs.Steps.{Steps, _>>=_, _>>_, stopIf}
 use Rattle.rules.specs.Call.{Call, operation, Completion}
 use Rattle.rules.specs.SetSystemMask.{setSystemMask}
 use Rattle.rules.specs.StoreControl.{storeControl}
-use Rattle.rules.specs.StoreThenMask.{andMask, orMask, storeThen}
+use Rattle.rules.specs.StoreThenMask.{And, Or, storeThen}
 use Rattle.rules.specs.SetStorageKey.{setStorageKey}
 use Rattle.rules.specs.Attempt.{sizesFit, assisted, instruction, program, reading}
 use Rattle.rules.proofs.Within.{Came, run-came, within-more}
@@ -47,11 +47,11 @@ instruction-fits c = (
   λ e1. (
     decided c 0xb6 storeControl 85 (omega arith) (stops refl refl refl) (storeControl-fits c),
     λ e2. (
-      decided c 0xac (storeThen andMask) 11 (omega arith) (stops refl refl refl)
-          (storeThen-fits 0xac (maskTable refl refl) andMask c),
+      decided c 0xac (storeThen And) 11 (omega arith) (stops refl refl refl)
+          (storeThen-fits 0xac (maskTable refl refl) And c),
       λ e3. (
-        decided c 0xad (storeThen orMask) 11 (omega arith) (stops refl refl refl)
-            (storeThen-fits 0xad (maskTable refl refl) orMask c),
+        decided c 0xad (storeThen Or) 11 (omega arith) (stops refl refl refl)
+            (storeThen-fits 0xad (maskTable refl refl) Or c),
         λ e4. (
           decided c 0x08 setStorageKey 8 (omega arith) (stops refl refl refl) (setStorageKey-fits c),
           λ e5. none-of-five (operation c) e1 e2 e3 e4 e5,

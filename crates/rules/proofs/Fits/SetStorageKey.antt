@@ -7,7 +7,7 @@ use Rattle.rules.specs.Steps.{_>>=_, fetchBytes, stopIf}
 use Rattle.rules.specs.Translation.{Format, segmentEntry}
 use Rattle.rules.specs.ControlFields.{controlWord, micrseg}
 use Rattle.rules.specs.Call.{Call}
-use Rattle.rules.specs.SetStorageKey.{segmentRefusal, setKeyIn, setStorageKey, formatIn, addressWord}
+use Rattle.rules.specs.SetStorageKey.{segmentRefusal, setKeyIn, segmentTable, setStorageKey, formatIn, addressWord}
 use Rattle.rules.specs.Theorems.Answers.{table}
 use Rattle.rules.proofs.Computing.{walking, keying}
 use Rattle.rules.proofs.Within.{Within, Any}
@@ -43,7 +43,7 @@ segmentEntry-within f table a = (
 )
 
 pub setStorageKey-fits : (c : Call) → Fits 0x08 c (setStorageKey c) 8
-unfolding _>>=_ fetchBytes stopIf controlWord micrseg setStorageKey
+unfolding _>>=_ fetchBytes stopIf controlWord micrseg segmentTable setStorageKey
 setStorageKey-fits c = (
   λ t. stops refl refl refl,
   λ t. (

@@ -7,8 +7,8 @@ use Rattle.rules.specs.Guest.{effective, instructionAddress}
 use Rattle.rules.specs.Steps.{_>>=_, fetchBytes, stopIf}
 use Rattle.rules.specs.Access.{secondHalfword}
 use Rattle.rules.specs.ControlFields.{controlWord, miccreg}
-use Rattle.rules.specs.Call.{Call}
-use Rattle.rules.specs.SetSystemMask.{maskOperand, replaceMask, setSystemMask}
+use Rattle.rules.specs.Call.{Call, complete}
+use Rattle.rules.specs.SetSystemMask.{maskOperand, maskTarget, setSystemMask}
 use Rattle.rules.proofs.Computing.{masking}
 use Rattle.rules.proofs.Within.{Within, Any, within-then}
 use Rattle.rules.proofs.Fits.{
@@ -46,20 +46,22 @@ maskOperand-within c =
       ),
     )
 
-replaceMask-fits : (c : Call) (new : ℕ) → Fits 0x80 c (replaceMask c new) 3
+maskTarget-within : (c : Call) (new : ℕ) → Within (Stops 0x80) Any (maskTarget c new) 2
 unfolding masking
-replaceMask-fits c new = (
+maskTarget-within c new = (
   stops refl refl refl,
   λ vpsw. (
     stops refl refl refl,
     λ first. (
       λ t. stops-expanded 0x80 (stops refl refl refl) (stops refl refl refl) c,
-      λ t. (λ t. stops refl refl refl, λ t. completes refl refl (omega arith)),
+      λ t. (λ t. stops refl refl refl, λ t. tt),
     ),
   ),
 )
 
 pub setSystemMask-fits : (c : Call) → Fits 0x80 c (setSystemMask c) 13
-unfolding setSystemMask
+unfolding setSystemMask complete
 setSystemMask-fits c =
-    fits-then 0x80 c (maskOperand c) (replaceMask c) 10 3 13 (omega arith) (maskOperand-within c) (replaceMask-fits c)
+    fits-then 0x80 c (maskOperand c) _ 10 3 13 (omega arith) (maskOperand-within c)
+    (λ new. fits-then 0x80 c (maskTarget c new) _ 2 1 3 (omega arith) (maskTarget-within c new)
+    (λ at. completes refl refl (omega arith)))

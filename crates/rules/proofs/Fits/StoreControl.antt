@@ -5,7 +5,7 @@ use mathlib.Core.Path.{_≡_, refl, _∙_}
 use mathlib.Core.List.{List, [], _∷_, _++_}
 use lib.ListN.{length, length-append}
 use Rattle.rules.specs.Machine.{_⊕_}
-use Rattle.rules.specs.Guest.{Guest, effective, instructionAddress}
+use Rattle.rules.specs.Guest.{Guest, instructionAddress}
 use Rattle.rules.specs.Steps.{_>>=_, fetchBytes, stopIf}
 use Rattle.rules.specs.Access.{access, storeTest, secondHalfword}
 use Rattle.rules.specs.ControlFields.{controlWord, miccreg, addressIn}
@@ -15,23 +15,12 @@ use Rattle.rules.specs.StoreControl.{
   virtualRegisters,
   operandWords,
   wordStores,
-  storeRegisters,
+  controlBlock,
+  wordOperand,
   storeControl,
 }
 use Rattle.rules.proofs.Within.{Within, within-then}
-use Rattle.rules.proofs.Fits.{
-  completes,
-  Stops,
-  stops,
-  Exceptions,
-  access-within,
-  logicalFetch-within,
-  Completes,
-  completes-more,
-  Fits,
-  fits-then,
-  exceptions,
-}
+use Rattle.rules.proofs.Fits.{completes, Stops, stops, Exceptions, access-within, logicalFetch-within, Completes, completes-more, Fits, exceptions}
 
 stctl-exceptions : (a : ℕ) → a < 2 ^ 24 → Exceptions (Stops 0xb6) a
 stctl-exceptions a l = exceptions 0xb6 a l (refl, refl, refl, refl, refl)
@@ -68,8 +57,12 @@ wordStores-few [] values = omega arith
 wordStores-few (real ∷ reals) [] = omega arith
 wordStores-few (real ∷ reals) (value ∷ values) = let h = wordStores-few reals values in omega arith
 
-storeRegisters-fits : (c : Call) (ecblok a : ℕ) → a < 2 ^ 24 → Fits 0xb6 c (storeRegisters c ecblok a) 80
-unfolding complete storeRegisters
+storeRegisters-fits : (c : Call) (ecblok a : ℕ) → a < 2 ^ 24
+    → let n = registerCount (r1 c) (r3 c) in
+    Fits 0xb6 c
+    (virtualRegisters ecblok [] (r1 c) n
+    >>= λ values. operandWords (c .guest) [] a n >>= λ reals. complete c 4 (wordStores reals values)) 80
+unfolding complete
 storeRegisters-fits c ecblok a l =
     let n = registerCount (r1 c) (r3 c) in
     let E = Stops 0xb6 in
@@ -81,18 +74,23 @@ storeRegisters-fits c ecblok a l =
     (operandWords-within (c .guest) [] a n 0 n l (omega arith) refl)
     (λ reals k. completes refl refl (let w = wordStores-few reals values in omega arith)))
 
+wordOperand-within : (g : Guest) → Within (Stops 0xb6) (λ a k. a < 2 ^ 24) (wordOperand g) 4
+unfolding _>>=_ stopIf secondHalfword wordOperand
+wordOperand-within g =
+    within-then (Stops 0xb6) (λ v. Unit {0}) (λ a k. a < 2 ^ 24) (λ a j k l h. h) (secondHalfword g) _ 4 0 4
+    (omega arith)
+    (logicalFetch-within _ g (instructionAddress g ⊕ 2) 2 (stctl-exceptions _ (omega arith)))
+    (λ second t. (λ t. stops refl refl refl, λ t. omega arith))
+
 pub storeControl-fits : (c : Call) → Fits 0xb6 c (storeControl c) 85
-unfolding _>>=_ fetchBytes stopIf controlWord miccreg secondHalfword storeControl
-storeControl-fits c =
-    let g = c .guest in (
-      λ t. stops refl refl refl,
-      λ t. (
-        stops refl refl refl,
-        λ creg.
-            fits-then 0xb6 c (secondHalfword g) _ 4 80 84 (omega arith)
-            (logicalFetch-within _ g (instructionAddress g ⊕ 2) 2 (stctl-exceptions _ (omega arith)))
-            (λ second.
-            let a = effective g second in
-            (λ t. stops refl refl refl, λ t. storeRegisters-fits c (addressIn creg) a (omega arith))),
-      ),
-    )
+unfolding _>>=_ fetchBytes stopIf controlWord miccreg controlBlock storeControl
+storeControl-fits c = (
+  λ t. stops refl refl refl,
+  λ t. (
+    stops refl refl refl,
+    λ creg.
+        within-then (Stops 0xb6) (λ a. a < 2 ^ 24) (Completes 0xb6 c) (completes-more 0xb6 c)
+        (wordOperand (c .guest)) _ 4 80 84 (omega arith) (wordOperand-within (c .guest))
+        (λ a l. storeRegisters-fits c (addressIn creg) a l),
+  ),
+)

@@ -4,15 +4,15 @@ use native.Mathlib.Omega.{arith}
 use mathlib.Core.Path.{_≡_, refl, sym, ap}
 use lib.ListN.{length}
 use Rattle.rules.specs.Machine.{_⊕_}
-use Rattle.rules.specs.Guest.{advance, effective, instructionAddress}
+use Rattle.rules.specs.Guest.{Guest, advance, effective, instructionAddress}
 use Rattle.rules.specs.Endings.{Completed, Expanded, FieldMissing, refuse}
 use Rattle.rules.specs.Steps.{_>>=_, fetchBytes, stopIf, endingAs}
 use Rattle.rules.specs.Access.{access, storeTest, secondHalfword}
 use Rattle.rules.specs.ControlFields.{controlWord, controlHalfword, micvpsw}
 use Rattle.rules.specs.Call.{Call, complete}
-use Rattle.rules.specs.StoreThenMask.{MaskChange, storeMasks, storeThen}
+use Rattle.rules.specs.StoreThenMask.{MaskChange, byteOperand, storeThen}
 use Rattle.rules.specs.Theorems.Answers.{table, listed, Possible, instructionLength}
-use Rattle.rules.proofs.Within.{Any, within-endingAs}
+use Rattle.rules.proofs.Within.{Within, Any, within-then, within-endingAs}
 use Rattle.rules.proofs.Fits.{
   Stops,
   possible,
@@ -35,30 +35,34 @@ pub record MaskTable (op : ℕ) : Type 0 where
   pub missing : Stops op (FieldMissing 2) × Stops op (FieldMissing 3)
   pub length : instructionLength op ≡ 4
 
-storeMasks-fits : (op : ℕ) → MaskTable op → (c : Call) (vpsw old new : ℕ) → Fits op c (storeMasks c vpsw old new) 9
-unfolding complete secondHalfword storeTest storeMasks
-storeMasks-fits op t c vpsw old new =
-    let g = c .guest in
-    fits-then op c (endingAs (λ e. refuse) (secondHalfword g)) _ 4 5 9 (omega arith)
+byteOperand-within : (op : ℕ) → MaskTable op → (g : Guest) → Within (Stops op) Any (byteOperand g) 7
+unfolding secondHalfword storeTest byteOperand
+byteOperand-within op t g =
+    within-then (Stops op) (λ v. Unit {0}) Any (λ r j k l h. tt) (endingAs (λ e. refuse) (secondHalfword g)) _ 4 3 7
+    (omega arith)
     (within-endingAs (λ e. Unit {0}) (Stops op) Any (λ e. refuse) (λ e u. t .refused) (secondHalfword g) 4
     (logicalFetch-within (λ e. Unit {0}) g (instructionAddress g ⊕ 2) 2
     (record { addressing = tt; protection = tt; specification = tt; segment = tt; page = tt })))
-    (λ second. fits-then op c (access _ g (effective g second)) _ 3 2 5 (omega arith)
-    (access-within (Stops op) _ g (effective g second) (exceptions op _ (omega arith) (t .accesses)))
-    (λ real. record { possible = t .completed; advanced = ap (advance g) (sym (t .length)); written = omega arith }))
+    (λ second u. access-within (Stops op) _ g (effective g second) (exceptions op _ (omega arith) (t .accesses)))
 
 pub storeThen-fits : (op : ℕ) → MaskTable op → (change : MaskChange) (c : Call) → Fits op c (storeThen change c) 11
-unfolding _>>=_ fetchBytes stopIf controlWord controlHalfword micvpsw storeThen
-storeThen-fits op t change c = (
-  λ x. t .refused,
-  λ x. (
-    t .missing .0,
-    λ vpsw. (
-      t .missing .1,
-      λ first. (λ x. stops-expanded op (t .handed) (t .refused) c, λ x. storeMasks-fits op t c _ _ _),
-    ),
-  ),
-)
+unfolding _>>=_ fetchBytes stopIf controlWord controlHalfword micvpsw complete storeThen
+storeThen-fits op t change c =
+    let g = c .guest in (
+      λ x. t .refused,
+      λ x. (
+        t .missing .0,
+        λ vpsw. (
+          t .missing .1,
+          λ first. (
+            λ x. stops-expanded op (t .handed) (t .refused) c,
+            λ x.
+                fits-then op c (byteOperand g) _ 7 2 9 (omega arith) (byteOperand-within op t g)
+                (λ real. record { possible = t .completed; advanced = ap (advance g) (sym (t .length)); written = omega arith }),
+          ),
+        ),
+      ),
+    )
 
 -- for an operation code whose table is STNSM's
 pub maskTable : {op : ℕ} → table op ≡ table 0xac → instructionLength op ≡ 4 → MaskTable op

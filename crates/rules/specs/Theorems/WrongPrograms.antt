@@ -18,7 +18,7 @@ use Rattle.rules.specs.Masks.{maskIn, extendedIn}
 use Rattle.rules.specs.Call.{Call, expanded, operation, r1, r3, immediate, Completion, complete}
 use Rattle.rules.specs.SetSystemMask.{maskOperand, maskNeedsExpanded, maskRefused}
 use Rattle.rules.specs.StoreControl.{assistsControl, registerCount, virtualRegisters}
-use Rattle.rules.specs.StoreThenMask.{andMask}
+use Rattle.rules.specs.StoreThenMask.{And, newMask, needsExpanded}
 use Rattle.rules.specs.Attempt.{
   sizesFit,
   oddAddress,
@@ -111,8 +111,8 @@ storeThenAndBy finish c = do
   vpsw ← micvpsw 2 (c .guest)
   first ← controlHalfword 3 (addressIn vpsw)
   let old = maskIn first
-  let new = andMask .newMask old (immediate c)
-  stopIf (andMask .needsExpanded (extendedIn first) (pending vpsw) old new) (expanded c)
+  let new = newMask And old (immediate c)
+  stopIf (needsExpanded And (extendedIn first) (pending vpsw) old new) (expanded c)
   finish c (addressIn vpsw) first old new
 
 -- reporting the second halfword's exception as itself

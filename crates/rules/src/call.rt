@@ -1,0 +1,49 @@
+// A call: the guest's record, the first halfword of the instruction, and whether the expanded assist is installed.
+ghost use mathlib.Core.Path.{_≡_};
+ghost use Rattle.rules.specs.Call.{operation, r1, r2, immediate, expanded};
+use crate::Ending;
+use crate::Exception;
+use crate::Guest;
+
+pub struct Call {
+    pub guest: Guest,
+    pub first: u16,
+    pub installed: bool,
+}
+
+impl Call {
+    pub fn operation(self) -> u32
+        ensures { λ r. ⌜ r ≡ operation self ⌝ }
+    {
+        (self.first / 256) as u32
+    }
+
+    pub fn r1(self) -> u32
+        ensures { λ r. ⌜ r ≡ r1 self ⌝ }
+    {
+        (self.first / 16 % 16) as u32
+    }
+
+    // R2 of the RR format is R3 of the RS format.
+    pub fn r2(self) -> u32
+        ensures { λ r. ⌜ r ≡ r2 self ⌝ }
+    {
+        (self.first % 16) as u32
+    }
+
+    pub fn immediate(self) -> u32
+        ensures { λ r. ⌜ r ≡ immediate self ⌝ }
+    {
+        (self.first % 256) as u32
+    }
+
+    // Document 01's "expanded": handed over where the expanded assist is installed, else refused.
+    pub fn expanded(self) -> Ending
+        ensures { λ r. ⌜ r ≡ expanded self ⌝ }
+    {
+        if self.installed {
+            return Ending::Expanded;
+        }
+        Ending::Interruption(Exception::PrivilegedOperation)
+    }
+}

@@ -1,5 +1,6 @@
 -- Laws of the definitions, and with them the theorems.
 pub mod Computing
+pub mod Bind
 pub mod Within
 pub mod Fits
 pub mod All

@@ -1,0 +1,166 @@
+-- A run, step by step: what the code's answers, and the machine that each call leaves, say of a reading program.
+use Prim.Native.Nat.{ℕ, _+_, _%_, _^_, _<_}
+use native.Mathlib.Omega.{arith}
+use mathlib.Core.Path.{_≡_, refl, sym, ap, _∙_}
+use mathlib.Core.Bool.{Bool, true, false}
+use mathlib.Core.List.{List}
+use lib.ListN.{length}
+use Rattle.rules.specs.declared.endings.Ending.{Ending}
+use Rattle.rules.specs.declared.guest.Guest.{Guest}
+use Rattle.rules.specs.Endings.{refuse}
+use Rattle.rules.specs.Machine.{Machine, Write}
+use Rattle.rules.specs.Steps.{Steps, done, branch, _>>=_, stopIf, endingAs}
+use Rattle.rules.specs.Run.{Outcome, ended, gave, View, view}
+use Rattle.rules.proofs.Bind.{following, view-bind, endedAs, run-endingAs}
+use Rattle.storage.specs.Answers.{
+  Stepped,
+  Value,
+  Stopped,
+  machine,
+  went,
+  over,
+  told,
+  seen,
+  later,
+  refused,
+}
+
+-- after n references more
+abbrev pub more : {A : Type 0} → ℕ → View A → View A
+more n x = record { outcome = x .outcome; count = (n + x .count) % 2 ^ 32; left = x .left }
+
+-- from t on m, after n references, u on m′ is what is left
+pub record Runs {A : Type 0} (m : Machine) (t : Steps A) (n : ℕ) (m′ : Machine) (u : Steps A) : Type 0 where
+  pub so : seen t m ≡ more n (seen u m′)
+  pub small : n < 2 ^ 32
+
+abbrev counted : {A : Type 0} → View A → ℕ → View A
+counted x n = record { outcome = x .outcome; count = n; left = x .left }
+
+pub more-zero : {A : Type 0} (p : Steps A) (m : Machine) → seen p m ≡ more 0 (seen p m)
+more-zero p m =
+    ap (counted (seen p m)) (let e : view p m .count % 2 ^ 32 ≡ (0 + view p m .count % 2 ^ 32) % 2 ^ 32 = omega arith in e)
+
+pub begin : {A : Type 0} → (m : Machine) (t : Steps A) → Runs m t 0 m t
+begin m t = record { so = more-zero t m; small = omega arith }
+
+-- ---- what a call's answer says
+
+pub fresh : {A : Type 0} (p : Steps A) (m : Machine) {x : View A} → x ≡ seen p m → x ≡ more 0 (seen p m)
+fresh p m f = f ∙ more-zero p m
+
+told-later : (n : ℕ) (r : Stepped) (s ks : List ℕ) → told (later n r) s ks ≡ more n (told r s ks)
+told-later n (Value v c) s ks = refl
+told-later n (Stopped e c) s ks = refl
+
+pub waited : (r r′ : Stepped) (n : ℕ) (s ks : List ℕ) (p : Steps ℕ) (m : Machine)
+    → r′ ≡ later n r → told r s ks ≡ seen p m → told r′ s ks ≡ more n (seen p m)
+waited r r′ n s ks p m e f = ap (λ x. told x s ks) e ∙ told-later n r s ks ∙ ap (more n) f
+
+-- every ending refused
+abbrev recast : View ℕ → View ℕ
+recast x = record { outcome = endedAs (λ e. refuse) (x .outcome); count = x .count; left = x .left }
+
+told-refused : (r : Stepped) (s ks : List ℕ) → told (refused r) s ks ≡ recast (told r s ks)
+told-refused (Value v c) s ks = refl
+told-refused (Stopped e c) s ks = refl
+
+pub refuses : (r r′ : Stepped) (s ks : List ℕ) (p : Steps ℕ) (m : Machine)
+    → r′ ≡ refused r → told r s ks ≡ seen p m → told r′ s ks ≡ seen (endingAs (λ e. refuse) p) m
+refuses r r′ s ks p m e f =
+    ap (λ x. told x s ks) e ∙ told-refused r s ks ∙ ap recast f
+    ∙ ap (λ x. record { outcome = x .outcome; count = length (x .references) % 2 ^ 32; left = m })
+    (sym (run-endingAs (λ e. refuse) p m))
+
+-- ---- the steps
+
+-- what came out of p, and then what k makes of it
+abbrev pursued : {A B : Type 0} → Outcome A → ℕ → Machine → (A → Steps B) → View B
+pursued (ended e) n m k = over e n m
+pursued (gave a) n m k = more n (seen (k a) m)
+
+pursued-counted : {A B : Type 0} (o : Outcome A) (n : ℕ) (m : Machine) (k : A → Steps B)
+    → let x = following o n m (λ a l. view (k a) l) in counted x (x .count % 2 ^ 32) ≡ pursued o (n % 2 ^ 32) m k
+pursued-counted (ended e) n m k = refl
+pursued-counted (gave a) n m k =
+    let c = view (k a) m .count in
+    ap (counted (seen (k a) m)) (let e : (n + c) % 2 ^ 32 ≡ (n % 2 ^ 32 + c % 2 ^ 32) % 2 ^ 32 = omega arith in e)
+
+more-pursued : {A B : Type 0} (n : ℕ) (o : Outcome A) (c : ℕ) (m : Machine) (k : A → Steps B)
+    → more n (pursued o c m k) ≡ pursued o ((n + c) % 2 ^ 32) m k
+more-pursued n (ended e) c m k = refl
+more-pursued n (gave a) c m k =
+    let d = seen (k a) m .count in
+    ap (counted (seen (k a) m))
+    (let e : (n + (c + d) % 2 ^ 32) % 2 ^ 32 ≡ ((n + c) % 2 ^ 32 + d) % 2 ^ 32 = omega arith in e)
+
+fits : {A : Type 0} (n : ℕ) (x y : View A) → x ≡ more n y → x .count < 2 ^ 32
+fits n x y f = let e = ap (λ z. z .count) f in omega arith
+
+module _ {A : Type 0} {m m′ : Machine} {t : Steps A} {n : ℕ} where
+  bound : {B : Type 0} (p : Steps B) (k : B → Steps A) (x : View B) → Runs m t n m′ (p >>= k)
+      → x ≡ more n (seen p m′) → seen t m ≡ pursued (x .outcome) (x .count) (x .left) k
+  bound p k x h f =
+      h .so
+      ∙ ap (λ y. more n (counted y (y .count % 2 ^ 32))) (view-bind p k m′)
+      ∙ ap (more n) (pursued-counted (view p m′ .outcome) (view p m′ .count) m′ k)
+      ∙ more-pursued n (view p m′ .outcome) (view p m′ .count % 2 ^ 32) m′ k
+      ∙ ap (λ y. pursued (y .outcome) (y .count) (y .left) k) (sym f)
+
+  -- p gives a value, and k goes on with it
+  pub goes : {B : Type 0} (p : Steps B) (k : B → Steps A) {v : B} {c : ℕ} {l : Machine} → Runs m t n m′ (p >>= k)
+      → went v c l ≡ more n (seen p m′) → Runs m t c l (k v)
+  goes p k {v} {c} {l} h f = record { so = bound p k (went v c l) h f; small = fits n (went v c l) (seen p m′) f }
+
+  -- p ends, and with it the whole
+  pub ends : {B : Type 0} (p : Steps B) (k : B → Steps A) {e : Ending} {c : ℕ} {l : Machine} → Runs m t n m′ (p >>= k)
+      → over e c l ≡ more n (seen p m′) → over e c l ≡ seen t m
+  ends p k {e} {c} {l} h f = sym (bound p k (over e c l) h f)
+
+  -- a test that passes, and one that stops
+  pub pass : (b : Bool) (e : Ending) (k : Unit {0} → Steps A) → Runs m t n m′ (stopIf b e >>= k) → b ≡ false
+      → Runs m t n m′ (k tt)
+  unfolding stopIf _>>=_
+  pass b e k h f = record { so = h .so ∙ ap (λ b. more n (seen (stopIf b e >>= k) m′)) f; small = h .small }
+
+  pub stops : (b : Bool) (e : Ending) (k : Unit {0} → Steps A) → Runs m t n m′ (stopIf b e >>= k) → b ≡ true
+      → over e n m′ ≡ seen t m
+  unfolding stopIf _>>=_
+  stops b e k h f =
+      let small = h .small in
+      sym (h .so ∙ ap (λ b. more n (seen (stopIf b e >>= k) m′)) f
+      ∙ ap (λ c. over e c m′) (let z : (n + 0 % 2 ^ 32) % 2 ^ 32 ≡ n = omega arith in z))
+
+  -- a choice
+  pub chosen : (b : Bool) (p q : Steps A) → Runs m t n m′ (branch b p q) → b ≡ true → Runs m t n m′ p
+  chosen b p q h f = record { so = h .so ∙ ap (λ b. more n (seen (branch b p q) m′)) f; small = h .small }
+
+  pub rejected : (b : Bool) (p q : Steps A) → Runs m t n m′ (branch b p q) → b ≡ false → Runs m t n m′ q
+  rejected b p q h f = record { so = h .so ∙ ap (λ b. more n (seen (branch b p q) m′)) f; small = h .small }
+
+  -- nothing is left to do
+  pub settles : (a : A) → Runs m t n m′ (done a) → went a n m′ ≡ seen t m
+  settles a h =
+      let small = h .small in
+      sym (h .so ∙ ap (λ c. went a c m′) (let z : (n + 0 % 2 ^ 32) % 2 ^ 32 ≡ n = omega arith in z))
+
+-- ---- the same of a step's answer
+
+module _ {A : Type 0} {m m′ : Machine} {t : Steps A} {n : ℕ} (r : Stepped) (s ks : List ℕ) where
+  pub step : (p : Steps ℕ) (k : ℕ → Steps A) {v c : ℕ} → Runs m t n m′ (p >>= k)
+      → told r s ks ≡ more n (seen p m′) → r ≡ Value v c → Runs m t c (machine s ks) (k v)
+  step p k h f e = goes p k h (ap (λ x. told x s ks) (sym e) ∙ f)
+
+  pub halts : (p : Steps ℕ) (k : ℕ → Steps A) {e : Ending} {c : ℕ} → Runs m t n m′ (p >>= k)
+      → told r s ks ≡ more n (seen p m′) → r ≡ Stopped e c → over e c (machine s ks) ≡ seen t m
+  halts p k h f e = ends p k h (ap (λ x. told x s ks) (sym e) ∙ f)
+
+module _ {m m′ : Machine} {t : Steps ℕ} {n : ℕ} (r : Stepped) (s ks : List ℕ) where
+  -- the answer handed on, where the step ended
+  pub hands : (p : Steps ℕ) (k : ℕ → Steps ℕ) {e : Ending} {c : ℕ} → Runs m t n m′ (p >>= k)
+      → told r s ks ≡ more n (seen p m′) → r ≡ Stopped e c → told r s ks ≡ seen t m
+  hands p k h f e = ap (λ x. told x s ks) e ∙ halts r s ks p k h f e
+
+  -- and where it was the last
+  pub last : (p : Steps ℕ) → Runs m t n m′ p → told r s ks ≡ more n (seen p m′) → told r s ks ≡ seen t m
+  last p h f = f ∙ sym (h .so)

@@ -1,0 +1,20 @@
+use mathlib.Core.Path.{_≡_, ap, _∙_}
+use mathlib.Core.Option.{some}
+use native.Mathlib.Omega.{arith}
+use lib.ListN.{length, getD}
+use borrow.Author.Tests.{lt-ltb, le-ltb}
+use borrow.Author.Needs.{needs}
+use Rattle.storage.specs.Items.{itemAt}
+use Rattle.storage.proofs.items.byte_at.Statement.{statement}
+use Rattle.storage.proofs.items.byte_at.Tie as tie
+
+returns : tie.Need-returns
+unfolding itemAt
+returns c = (simp (lt-ltb _ _ (c .before .before .if1 .taken), c .wide .ensures .0) (ap some (omega arith)), c .wide .ensures .1)
+
+returns-2 : tie.Need-returns-2
+unfolding itemAt
+returns-2 c = (simp (le-ltb _ _ (c .if1 .left)), omega arith)
+
+pub byte-at-spec : {M : Type 1} → statement M
+byte-at-spec = tie.close (tie.spec (λ c. search needs) (λ c κs. search needs) returns returns-2)

@@ -1,0 +1,73 @@
+-- What the code's answers say of a reading program. The code counts references in 32 bits.
+use Prim.Native.Nat.{ℕ, _+_, _%_, _^_}
+use mathlib.Core.List.{List}
+use lib.ListN.{length}
+use Rattle.rules.specs.declared.endings.Ending.{Ending}
+use Rattle.rules.specs.declared.endings.Ending.the-variants.{Completed}
+use Rattle.rules.specs.declared.guest.Guest.{Guest}
+use Rattle.rules.specs.declared.answer.Answer.{Answer}
+use Rattle.rules.specs.Endings.{refuse}
+use Rattle.rules.specs.Machine.{Machine, performAll}
+use Rattle.rules.specs.Steps.{Steps}
+use Rattle.rules.specs.Run.{Outcome, ended, gave, View, view}
+use Rattle.rules.specs.Call.{Completion}
+use Rattle.storage.specs.Items.{Item, Of, Missing}
+pub use Rattle.storage.specs.declared.steps.Stepped.{Stepped}
+pub use Rattle.storage.specs.declared.steps.Stepped.the-variants.{Value, Stopped}
+
+abbrev pub machine : (storage keys : List ℕ) → Machine
+machine storage keys = record { storage = storage; keys = keys }
+
+-- ---- a step: its outcome, its count, and the machine that it leaves
+
+abbrev pub went : {A : Type 0} → A → (count : ℕ) → Machine → View A
+went a n m = record { outcome = gave a; count = n; left = m }
+
+abbrev pub over : {A : Type 0} → Ending → (count : ℕ) → Machine → View A
+over e n m = record { outcome = ended e; count = n; left = m }
+
+abbrev pub told : Stepped → (storage keys : List ℕ) → View ℕ
+told (Value v n) storage keys = went v n (machine storage keys)
+told (Stopped e n) storage keys = over e n (machine storage keys)
+
+-- a reading program on a machine, its references counted in 32 bits
+abbrev pub seen : {A : Type 0} → Steps A → Machine → View A
+seen p m = record { outcome = view p m .outcome; count = view p m .count % 2 ^ 32; left = view p m .left }
+
+-- ---- answers made of answers
+
+abbrev pub fetchedAs : Item → Ending → Stepped
+fetchedAs (Of v) e = Value v 1
+fetchedAs Missing e = Stopped e 0
+
+-- after n references more
+abbrev pub later : (n : ℕ) → Stepped → Stepped
+later n (Value v c) = Value v ((n + c) % 2 ^ 32)
+later n (Stopped e c) = Stopped e ((n + c) % 2 ^ 32)
+
+abbrev pub refused : Stepped → Stepped
+refused (Value v c) = Value v c
+refused (Stopped e c) = Stopped refuse c
+
+-- ---- an instruction: its answer, and the machine afterwards
+
+pub record Finished : Type 0 where
+  pub answer : Answer
+  pub after : Machine
+
+abbrev pub finished : Answer → (storage keys : List ℕ) → Finished
+finished answer storage keys = record { answer = answer; after = machine storage keys }
+
+abbrev pub answer : Ending → (count : ℕ) → Guest → Answer
+answer e n g = record { ending = e; count = n; guest = g }
+
+-- completion makes the writes; every other ending hands the record back as it was
+abbrev pub finish : Guest → View Completion → Finished
+finish g x = by (x .outcome) (x .count) (x .left)
+  where
+    by : Outcome Completion → ℕ → Machine → Finished
+    by (ended e) n m = record { answer = answer e n g; after = m }
+    by (gave c) n m = record {
+      answer = answer Completed ((n + length (c .writes)) % 2 ^ 32) (c .guest);
+      after = performAll m (c .writes);
+    }

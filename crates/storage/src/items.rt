@@ -1,0 +1,65 @@
+// An item of storage: the byte, halfword or word from a real address on, each byte's address modulo 2^24.
+ghost use mathlib.Core.Path.{_≡_};
+ghost use Prim.Native.Nat.{_<_};
+ghost use Rattle.storage.specs.Items.{found, held, itemAt, bytesIn};
+
+pub enum Width {
+    Byte,
+    Halfword,
+    Word,
+}
+
+pub enum Item {
+    Of(u32),
+    Missing,
+}
+
+fn wide(b: u8) -> u32
+    ensures { λ r. ⌜ (r ≡ b) × (r < 256) ⌝ }
+{
+    b as u32
+}
+
+pub(crate) fn byte_at(storage: &[u8], at: u32) -> Item
+    ensures { λ r. ⌜ (found r ≡ itemAt (now (storage .entry)) at 1) × (held r < 256) ⌝ }
+{
+    let i = at as usize;
+    if i < storage.len() {
+        return Item::Of(wide(storage[i]));
+    }
+    Item::Missing
+}
+
+pub(crate) fn halfword_at(storage: &[u8], at: u32) -> Item
+    ensures { λ r. ⌜ (found r ≡ itemAt (now (storage .entry)) at 2) × (held r < 65536) ⌝ }
+{
+    let Item::Of(left) = byte_at(storage, at) else {
+        return Item::Missing;
+    };
+    let Item::Of(right) = byte_at(storage, rules::sum(at, 1)) else {
+        return Item::Missing;
+    };
+    Item::Of(left * 256 + right)
+}
+
+pub(crate) fn word_at(storage: &[u8], at: u32) -> Item
+    ensures { λ r. ⌜ found r ≡ itemAt (now (storage .entry)) at 4 ⌝ }
+{
+    let Item::Of(left) = halfword_at(storage, at) else {
+        return Item::Missing;
+    };
+    let Item::Of(right) = halfword_at(storage, rules::sum(at, 2)) else {
+        return Item::Missing;
+    };
+    Item::Of(left * 65536 + right)
+}
+
+pub(crate) fn item_at(storage: &[u8], width: Width, at: u32) -> Item
+    ensures { λ r. ⌜ found r ≡ itemAt (now (storage .entry)) at (bytesIn width) ⌝ }
+{
+    match width {
+        Width::Byte => byte_at(storage, at),
+        Width::Halfword => halfword_at(storage, at),
+        Width::Word => word_at(storage, at),
+    }
+}

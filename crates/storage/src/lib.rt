@@ -1,0 +1,15 @@
+// Items of storage, keys and stores, each at a real address, and the answer of a step of a reading program.
+
+mod items;
+mod keys;
+mod steps;
+mod stores;
+
+pub use items::Width;
+pub use keys::protection_key;
+pub use keys::whole_key;
+pub use steps::Stepped;
+pub use steps::fetch;
+pub use stores::set_key;
+pub use stores::store_byte;
+pub use stores::store_word;

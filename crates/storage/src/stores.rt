@@ -1,0 +1,73 @@
+// Stores, and the setting of a key. A byte that is not in storage, or a key that is not there, changes nothing.
+ghost use Prim.Native.Nat.{ℕ, _%_};
+ghost use mathlib.Core.Path.{_≡_};
+ghost use mathlib.Core.List.{List};
+ghost use lib.ListN.{length, set};
+ghost use Rattle.rules.specs.Machine.{addresses, stored, perform, store, setKey};
+ghost use Rattle.storage.specs.Answers.{machine};
+ghost use Rattle.storage.specs.Items.{wordBytes};
+
+fn put_byte(storage: &mut [u8], at: u32, value: u32)
+    ensures { λ _. ⌜ now (storage .exit) ≡ set (now (storage .entry)) at (value % 256) ⌝ }
+{
+    let i = at as usize;
+    if i < storage.len() {
+        storage[i] = (value % 256) as u8;
+    }
+}
+
+// The four bytes of a word, in a part of storage that is lent for them.
+fn put_word(part: &mut [u8], value: u32)
+    requires { ⌜ length (now part) ≡ 4 ⌝ }
+    ensures { λ _. ⌜ now (part .exit) ≡ wordBytes value ⌝ }
+{
+    part[0] = (value / 16777216 % 256) as u8;
+    part[1] = (value / 65536 % 256) as u8;
+    part[2] = (value / 256 % 256) as u8;
+    part[3] = (value % 256) as u8;
+}
+
+pub fn store_byte(storage: &mut [u8], keys: &mut [u8], at: u32, value: u32)
+    ensures { λ _. ⌜ machine (now (storage .exit)) (now (keys .exit)) ≡ perform (machine (now (storage .entry)) (now (keys .entry))) (store at 1 value) ⌝ }
+{
+    put_byte(storage, at, value);
+}
+
+// A word that goes round the top of storage, or past its end: byte by byte.
+fn put_bytes(storage: &mut [u8], at: u32, value: u32)
+    ensures { λ _. ⌜ now (storage .exit) ≡ stored (now (storage .entry)) (addresses at 4) value ⌝ }
+{
+    let second = rules::sum(at, 1);
+    let third = rules::sum(second, 1);
+    let fourth = rules::sum(third, 1);
+    put_byte(storage, at, value / 16777216);
+    put_byte(storage, second, value / 65536);
+    put_byte(storage, third, value / 256);
+    put_byte(storage, fourth, value);
+}
+
+// A word: the four-byte part of storage that starts at its address is lent for it, where it is in one piece.
+pub fn store_word(storage: &mut [u8], keys: &mut [u8], at: u32, value: u32)
+    ensures { λ _. ⌜ machine (now (storage .exit)) (now (keys .exit)) ≡ perform (machine (now (storage .entry)) (now (keys .entry))) (store at 4 value) ⌝ }
+{
+    let start = at as usize;
+    let end = start + 4;
+    if 16777216 < end {
+        put_bytes(storage, at, value);
+        return;
+    }
+    if storage.len() < end {
+        put_bytes(storage, at, value);
+        return;
+    }
+    put_word(&mut storage[start..end], value);
+}
+
+pub fn set_key(keys: &mut [u8], block: u32, key: u8)
+    ensures { λ _. ⌜ ((s : List ℕ) → machine s (now (keys .exit)) ≡ perform (machine s (now (keys .entry))) (setKey block key)) ⌝ }
+{
+    let i = block as usize;
+    if i < keys.len() {
+        keys[i] = key;
+    }
+}

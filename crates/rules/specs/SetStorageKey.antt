@@ -9,6 +9,9 @@ use lib.Bits.{bitOr}
 use Rattle.rules.specs.Endings.{Ending, FieldMissing, refuse}
 use Rattle.rules.specs.Translation.{
   Format,
+  FourK,
+  SixtyFourK,
+  OneM,
   SegmentFault,
   SegmentTableLength,
   SegmentEntryMissing,
@@ -40,7 +43,7 @@ addressWord c = register (c .guest) (r2 c)
 
 -- 4K pages; bit 31 of MICRSEG chooses 1M segments
 abbrev pub formatIn : (rseg : ℕ) → Format
-formatIn rseg = record { page = 4096; segment = cond (bit 32 31 rseg) 1048576 65536 }
+formatIn rseg = record { page = FourK; segment = cond (bit 32 31 rseg) OneM SixtyFourK }
 
 -- the walk's faults: an entry that is not in storage gives 3, all others refuse
 abbrev pub segmentRefusal : SegmentFault → Ending

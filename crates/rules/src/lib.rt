@@ -18,4 +18,6 @@ pub use guest::Guest;
 pub use masks::MaskChange;
 pub use tables::Format;
 pub use tables::PageFault;
+pub use tables::PageSize;
 pub use tables::SegmentFault;
+pub use tables::SegmentSize;

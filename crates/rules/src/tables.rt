@@ -1,9 +1,45 @@
 // Segment tables and page tables.
+ghost use Prim.Native.Nat.{_≤_};
+ghost use mathlib.Core.Path.{_≡_};
+ghost use mathlib.Core.Logic.{_⊎_};
+ghost use Rattle.rules.specs.Translation.{pageBytes, segmentBytes};
 
-// The four formats of dynamic address translation, as the bytes in a page and in a segment.
+pub enum PageSize {
+    TwoK,
+    FourK,
+}
+
+pub enum SegmentSize {
+    SixtyFourK,
+    OneM,
+}
+
+// The four formats of dynamic address translation.
 pub struct Format {
-    pub page: u32,
-    pub segment: u32,
+    pub page: PageSize,
+    pub segment: SegmentSize,
+}
+
+impl Format {
+    pub fn page_bytes(self) -> u32
+        ensures { λ r. ⌜ (r ≡ pageBytes self) × (2048 ≤ r) × ((r ≡ 2048) ⊎ (r ≡ 4096)) ⌝ }
+    {
+        let page = self.page;
+        match page {
+            PageSize::TwoK => 2048,
+            PageSize::FourK => 4096,
+        }
+    }
+
+    pub fn segment_bytes(self) -> u32
+        ensures { λ r. ⌜ (r ≡ segmentBytes self) × (65536 ≤ r) × ((r ≡ 65536) ⊎ (r ≡ 1048576)) ⌝ }
+    {
+        let segment = self.segment;
+        match segment {
+            SegmentSize::SixtyFourK => 65536,
+            SegmentSize::OneM => 1048576,
+        }
+    }
 }
 
 // What can be wrong on the way to a segment-table entry, in the order of the tests.

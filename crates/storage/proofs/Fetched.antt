@@ -23,7 +23,7 @@ told-found Missing e s ks = refl
 
 pub fetches : (i : Item) (s ks : List ℕ) (a n : ℕ) (e : Ending) → found i ≡ itemAt s a n
     → told (fetchedAs i e) s ks ≡ seen (fetchBytes a n e) (machine s ks)
-unfolding itemAt fetchBytes
+unfolding itemAt fetchBytes seen
 fetches i s ks a n e f = told-found i e s ks ∙ ap (λ o. answered o e m) f ∙ go (has (length s) a n)
   where
     m : Machine

@@ -38,6 +38,7 @@ abbrev counted : {A : Type 0} → View A → ℕ → View A
 counted x n = record { outcome = x .outcome; count = n; left = x .left }
 
 pub more-zero : {A : Type 0} (p : Steps A) (m : Machine) → seen p m ≡ more 0 (seen p m)
+unfolding seen
 more-zero p m =
     ap (counted (seen p m)) (let e : view p m .count % 2 ^ 32 ≡ (0 + view p m .count % 2 ^ 32) % 2 ^ 32 = omega arith in e)
 
@@ -67,6 +68,7 @@ told-refused (Stopped e c) s ks = refl
 
 pub refuses : (r r′ : Stepped) (s ks : List ℕ) (p : Steps ℕ) (m : Machine)
     → r′ ≡ refused r → told r s ks ≡ seen p m → told r′ s ks ≡ seen (endingAs (λ e. refuse) p) m
+unfolding seen
 refuses r r′ s ks p m e f =
     ap (λ x. told x s ks) e ∙ told-refused r s ks ∙ ap recast f
     ∙ ap (λ x. record { outcome = x .outcome; count = length (x .references) % 2 ^ 32; left = m })
@@ -81,6 +83,7 @@ pursued (gave a) n m k = more n (seen (k a) m)
 
 pursued-counted : {A B : Type 0} (o : Outcome A) (n : ℕ) (m : Machine) (k : A → Steps B)
     → let x = following o n m (λ a l. view (k a) l) in counted x (x .count % 2 ^ 32) ≡ pursued o (n % 2 ^ 32) m k
+unfolding seen
 pursued-counted (ended e) n m k = refl
 pursued-counted (gave a) n m k =
     let c = view (k a) m .count in
@@ -88,6 +91,7 @@ pursued-counted (gave a) n m k =
 
 more-pursued : {A B : Type 0} (n : ℕ) (o : Outcome A) (c : ℕ) (m : Machine) (k : A → Steps B)
     → more n (pursued o c m k) ≡ pursued o ((n + c) % 2 ^ 32) m k
+unfolding seen
 more-pursued n (ended e) c m k = refl
 more-pursued n (gave a) c m k =
     let d = seen (k a) m .count in
@@ -100,6 +104,7 @@ fits n x y f = let e = ap (λ z. z .count) f in omega arith
 module _ {A : Type 0} {m m′ : Machine} {t : Steps A} {n : ℕ} where
   bound : {B : Type 0} (p : Steps B) (k : B → Steps A) (x : View B) → Runs m t n m′ (p >>= k)
       → x ≡ more n (seen p m′) → seen t m ≡ pursued (x .outcome) (x .count) (x .left) k
+  unfolding seen
   bound p k x h f =
       h .so
       ∙ ap (λ y. more n (counted y (y .count % 2 ^ 32))) (view-bind p k m′)
@@ -120,12 +125,12 @@ module _ {A : Type 0} {m m′ : Machine} {t : Steps A} {n : ℕ} where
   -- a test that passes, and one that stops
   pub pass : (b : Bool) (e : Ending) (k : Unit {0} → Steps A) → Runs m t n m′ (stopIf b e >>= k) → b ≡ false
       → Runs m t n m′ (k tt)
-  unfolding stopIf _>>=_
+  unfolding seen stopIf _>>=_
   pass b e k h f = record { so = h .so ∙ ap (λ b. more n (seen (stopIf b e >>= k) m′)) f; small = h .small }
 
   pub stops : (b : Bool) (e : Ending) (k : Unit {0} → Steps A) → Runs m t n m′ (stopIf b e >>= k) → b ≡ true
       → over e n m′ ≡ seen t m
-  unfolding stopIf _>>=_
+  unfolding seen stopIf _>>=_
   stops b e k h f =
       let small = h .small in
       sym (h .so ∙ ap (λ b. more n (seen (stopIf b e >>= k) m′)) f
@@ -133,13 +138,16 @@ module _ {A : Type 0} {m m′ : Machine} {t : Steps A} {n : ℕ} where
 
   -- a choice
   pub chosen : (b : Bool) (p q : Steps A) → Runs m t n m′ (branch b p q) → b ≡ true → Runs m t n m′ p
+  unfolding seen
   chosen b p q h f = record { so = h .so ∙ ap (λ b. more n (seen (branch b p q) m′)) f; small = h .small }
 
   pub rejected : (b : Bool) (p q : Steps A) → Runs m t n m′ (branch b p q) → b ≡ false → Runs m t n m′ q
+  unfolding seen
   rejected b p q h f = record { so = h .so ∙ ap (λ b. more n (seen (branch b p q) m′)) f; small = h .small }
 
   -- nothing is left to do
   pub settles : (a : A) → Runs m t n m′ (done a) → went a n m′ ≡ seen t m
+  unfolding seen
   settles a h =
       let small = h .small in
       sym (h .so ∙ ap (λ c. went a c m′) (let z : (n + 0 % 2 ^ 32) % 2 ^ 32 ≡ n = omega arith in z))
@@ -164,3 +172,7 @@ module _ {m m′ : Machine} {t : Steps ℕ} {n : ℕ} (r : Stepped) (s ks : List
   -- and where it was the last
   pub last : (p : Steps ℕ) → Runs m t n m′ p → told r s ks ≡ more n (seen p m′) → told r s ks ≡ seen t m
   last p h f = f ∙ sym (h .so)
+
+-- what is left of t on m, wherever it has come to
+abbrev pub Left : {A : Type 0} → Machine → Steps A → Type 0
+Left {A} m t = (n : ℕ) × (m′ : Machine) × (u : Steps A) × Runs m t n m′ u

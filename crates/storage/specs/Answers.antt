@@ -31,7 +31,7 @@ told (Value v n) storage keys = went v n (machine storage keys)
 told (Stopped e n) storage keys = over e n (machine storage keys)
 
 -- a reading program on a machine, its references counted in 32 bits
-abbrev pub seen : {A : Type 0} → Steps A → Machine → View A
+unfoldable pub seen : {A : Type 0} → Steps A → Machine → View A
 seen p m = record { outcome = view p m .outcome; count = view p m .count % 2 ^ 32; left = view p m .left }
 
 -- ---- answers made of answers

@@ -5,11 +5,13 @@ mod keys;
 mod steps;
 mod stores;
 
+pub use items::Item;
 pub use items::Width;
 pub use keys::protection_key;
 pub use keys::whole_key;
 pub use steps::Stepped;
 pub use steps::fetch;
+pub use steps::item;
 pub use stores::set_key;
 pub use stores::store_byte;
 pub use stores::store_word;

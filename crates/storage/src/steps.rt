@@ -1,5 +1,6 @@
 // The answer of a step of a reading program: a value, or the ending, and the count of references made for it.
 ghost use mathlib.Core.Path.{_≡_};
+ghost use Rattle.rules.specs.declared.endings.Ending.{Ending};
 ghost use Rattle.rules.specs.Steps.{fetchBytes};
 ghost use Rattle.storage.specs.Items.{bytesIn};
 ghost use Rattle.storage.specs.Answers.{later, refused, machine, told, seen, fetchedAs};
@@ -47,9 +48,16 @@ fn fetched(item: Item, missing: Ending) -> Stepped
     }
 }
 
-// An item of storage, or the ending if a byte of it is not there.
+// An item of storage: what it gives for any ending that its absence may have.
+pub fn item(storage: &[u8], keys: &mut [u8], width: Width, at: u32) -> Item
+    ensures { λ r. ⌜ ((e : Ending) → told (fetchedAs r e) (now (storage .entry)) (now (keys .exit)) ≡ seen (fetchBytes at (bytesIn width) e) (machine (now (storage .entry)) (now (keys .entry)))) ⌝ }
+{
+    item_at(storage, width, at)
+}
+
+// The same, or this ending if a byte of it is not there.
 pub fn fetch(storage: &[u8], keys: &mut [u8], width: Width, at: u32, missing: Ending) -> Stepped
     ensures { λ r. ⌜ told r (now (storage .entry)) (now (keys .exit)) ≡ seen (fetchBytes at (bytesIn width) missing) (machine (now (storage .entry)) (now (keys .entry))) ⌝ }
 {
-    fetched(item_at(storage, width, at), missing)
+    fetched(item(storage, keys, width, at), missing)
 }

@@ -1,3 +1,4 @@
+use Rattle.storage.specs.Answers.{seen}
 use mathlib.Core.Path.{refl}
 use native.Mathlib.Omega.{arith}
 use borrow.Author.Tests.{lt-ltb, le-ltb}
@@ -10,11 +11,11 @@ cast-t9 : tie.Need-cast-t9
 cast-t9 c = omega (arith, c .slice-known .given (c .before .before .args .block))
 
 returns : tie.Need-returns
-unfolding consultKey
+unfolding consultKey seen
 returns c = λ s. simp (lt-ltb _ _ (c .before .if1 .taken))
 
 returns-2 : tie.Need-returns-2
-unfolding consultKey
+unfolding consultKey seen
 returns-2 c = λ s. simp (le-ltb _ _ (c .if1 .left))
 
 pub whole-key-spec : {M : Type 1} → statement M

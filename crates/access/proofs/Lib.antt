@@ -1,0 +1,2 @@
+-- Laws of the sizes of pages and segments.
+pub mod Sizes

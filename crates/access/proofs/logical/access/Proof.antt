@@ -1,0 +1,91 @@
+use mathlib.Core.Bool.{not}
+use Rattle.rules.specs.Guest.{pswKey}
+use mathlib.Core.Path.{_≡_, refl, sym, ap, _∙_}
+use Rattle.rules.specs.Access.{access}
+use Rattle.storage.specs.Answers.{machine, told, seen}
+use Rattle.storage.proofs.Laws.{Left, more, begin, fresh, waited, pass, stops, step, hands, settles}
+use Rattle.access.specs.Walks.{passesFor}
+use borrow.Author.Needs.{needs}
+use Rattle.access.proofs.logical.access.Statement.{statement}
+use Rattle.access.proofs.logical.access.Tie as tie
+
+abbrev Here : tie.Start → Type 0
+Here c =
+    let a = c .args in
+    Left (machine (a .storage .now) (a .keys .now)) (access (passesFor (a .store)) (a .guest) (a .at))
+
+abbrev resolved : (c : tie.After-known-told) → Here (c .before .before .before .before .before .before .before .before .before)
+unfolding access
+resolved c =
+    let a = c .before .before .before .before .before .before .before .before .before .args in
+    let m = machine (a .storage .now) (a .keys .now) in (
+      _,
+      _,
+      _,
+      step (c .before .before .before .before .before .real-of .result) (a .storage .now) (c .before .before .before .before .before .real-of .last .1 .0) _ _
+          (begin m (access (passesFor (a .store)) (a .guest) (a .at))) (fresh _ _ (c .before .before .before .before .before .real-of .ensures)) (c .before .resolved .given .1),
+    )
+
+abbrev consulted : (c : tie.After-known-told2) → Here (c .before .before .before .before .before .before .before .before .before .before .before .before .before .before .before .before .before)
+unfolding access resolved
+consulted c =
+    let s = c .before .before .before .before .before .before .before .before .before .before .before .before .before .before .before .before .before .args .storage .now in
+    let ks = c .before .before .before .before .before .before .protection-key .last .0 in (
+      _,
+      _,
+      _,
+      step (c .before .before .before .after .result) s ks _ _ (resolved (c .before .before .before .before .before .before .before .before) .3)
+          (waited (c .before .before .before .before .before .before .protection-key .result) (c .before .before .before .after .result) _ s ks _ _ (c .before .before .before .after .ensures) (c .before .before .before .before .before .before .protection-key .ensures s))
+          (c .before .consulted .given .1),
+    )
+
+-- what the test says
+passing : (c : tie.After-passes) → let a = c .before .before .before .before .before .before .before .before .before .before .before .before .before .before .before .before .before .before .before .args in c .passes .result ≡ passesFor (a .store) (pswKey (a .guest)) (c .before .before .before .consulted .given .0 .0)
+passing c = simp (c .before .psw-key .ensures) at (c .passes .ensures)
+
+returns : tie.Need-returns
+unfolding access
+returns c =
+    let a = c .before .before .before .before .before .before .before .before .args in
+    let m = machine (a .storage .now) (a .keys .now) in
+    hands (c .before .before .before .before .real-of .result) (a .storage .now) (c .before .before .before .before .real-of .last .1 .0) _ _
+    (begin m (access (passesFor (a .store)) (a .guest) (a .at))) (fresh _ _ (c .before .before .before .before .real-of .ensures)) (c .enum-told .given .1)
+
+returns-2 : tie.Need-returns-2
+unfolding access resolved
+returns-2 c =
+    let s = c .before .before .before .before .before .before .before .before .before .before .before .before .before .before .before .before .args .storage .now in
+    let ks = c .before .before .before .before .before .protection-key .last .0 in
+    hands (c .before .before .after .result) s ks _ _ (resolved (c .before .before .before .before .before .before .before) .3)
+    (waited (c .before .before .before .before .before .protection-key .result) (c .before .before .after .result) _ s ks _ _ (c .before .before .after .ensures) (c .before .before .before .before .before .protection-key .ensures s))
+    (c .enum-told2 .given .1)
+
+returns-3 : tie.Need-returns-3
+unfolding access resolved consulted
+returns-3 c = settles _ (pass _ _ _ (consulted (c .before .before .before) .3) (ap not (sym (passing (c .before)) ∙ c .if1 .taken)))
+
+returns-4 : tie.Need-returns-4
+unfolding access resolved consulted
+returns-4 c = stops _ _ _ (consulted (c .before .before .before) .3) (ap not (sym (passing (c .before)) ∙ c .if1 .left))
+
+pub access-spec : {M : Type 1} → statement M
+access-spec =
+    tie.close
+    (tie.spec
+    (λ c κs. search needs)
+    (λ c. search needs)
+    (λ c. search needs)
+    (λ c. search needs)
+    returns
+    (λ c κs. search needs)
+    (λ c κs. search needs)
+    (λ c. search needs)
+    (λ c. search needs)
+    (λ c. search needs)
+    returns-2
+    (λ c κs. search needs)
+    (λ c κs. search needs)
+    (λ c. search needs)
+    returns-3
+    (λ c. search needs)
+    returns-4)

@@ -1,0 +1,26 @@
+use mathlib.Core.Path.{_≡_, refl, sym, ap, _∙_}
+use Rattle.rules.specs.Access.{realOf}
+use Rattle.storage.specs.Answers.{machine}
+use Rattle.storage.proofs.Laws.{begin, fresh, chosen, rejected, last, settles}
+use borrow.Author.Needs.{needs}
+use Rattle.access.proofs.logical.real_of.Statement.{statement}
+use Rattle.access.proofs.logical.real_of.Tie as tie
+
+returns : tie.Need-returns
+unfolding realOf
+returns c =
+    let a = c .before .before .before .before .before .before .before .before .args in
+    let m = machine (a .storage .now) (a .keys .now) in
+    last (c .before .before .translate .result) (a .storage .now) (c .before .before .translate .last .1 .0) _
+    (chosen _ _ _ (begin m (realOf (a .guest) (a .at))) (sym (c .before .before .before .before .before .dat-on .ensures) ∙ c .before .before .before .before .if1 .taken)) (fresh _ _ (c .before .before .translate .ensures))
+
+returns-2 : tie.Need-returns-2
+unfolding realOf
+returns-2 c =
+    let a = c .before .before .before .before .args in
+    let m = machine (a .storage .now) (a .keys .now) in
+    settles _ (rejected _ _ _ (begin m (realOf (a .guest) (a .at))) (sym (c .before .dat-on .ensures) ∙ c .if1 .left))
+
+pub real-of-spec : {M : Type 1} → statement M
+real-of-spec =
+    tie.close (tie.spec (λ c κs. search needs) (λ c κs. search needs) (λ c. search needs) returns returns-2)

@@ -1,0 +1,26 @@
+// How an instruction reaches storage: translation, the access test, logical fetches, and the control program's fields.
+
+mod control_fields;
+mod logical;
+mod pages;
+mod segments;
+mod translation;
+
+pub use control_fields::address_in;
+pub use control_fields::control_halfword;
+pub use control_fields::control_word;
+pub use control_fields::is_pending;
+pub use control_fields::miccreg;
+pub use control_fields::micrseg;
+pub use control_fields::micvpsw;
+pub use logical::logical_fetch;
+pub use logical::second_halfword;
+pub use logical::store_test;
+pub use pages::is_invalid;
+pub use pages::is_malformed;
+pub use pages::page_entry_at;
+pub use pages::page_index;
+pub use pages::page_table;
+pub use pages::real_address;
+pub use segments::Walked;
+pub use segments::segment_entry;

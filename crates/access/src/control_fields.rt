@@ -1,6 +1,7 @@
 // The control program's fields: real, with key zero, each with the step that wants it, which ending 3 carries.
 ghost use mathlib.Core.Path.{_≡_};
 ghost use Rattle.rules.specs.ControlFields.{controlWord, controlHalfword, micrseg, miccreg, micvpsw, addressIn, pending};
+ghost use Rattle.rules.specs.StoreControl.{assistsControl};
 ghost use Rattle.storage.specs.Answers.{machine, told, seen};
 use rules::Ending;
 use rules::Guest;
@@ -56,4 +57,11 @@ pub fn is_pending(field: u32) -> bool
     ensures { λ r. ⌜ r ≡ pending field ⌝ }
 {
     field / 2147483648 % 2 == 1
+}
+
+// STCTL, STNSM and STOSM, step 1: control register 6 bits 0-3 are 10X0.
+pub fn assists_control(guest: Guest) -> bool
+    ensures { λ r. ⌜ r ≡ assistsControl guest ⌝ }
+{
+    (guest.cr6 / 1073741824 % 4 == 2) & (guest.cr6 / 268435456 % 2 != 1)
 }

@@ -7,6 +7,7 @@ mod segments;
 mod translation;
 
 pub use control_fields::address_in;
+pub use control_fields::assists_control;
 pub use control_fields::control_halfword;
 pub use control_fields::control_word;
 pub use control_fields::is_pending;

@@ -6,7 +6,7 @@ use mathlib.Core.List.{[], _∷_}
 use lib.Dec.{eqb}
 use Rattle.rules.specs.Bits.{bit, word}
 use Rattle.rules.specs.Machine.{store}
-use Rattle.rules.specs.Guest.{effective}
+use Rattle.rules.specs.Guest.{Guest, effective}
 use Rattle.rules.specs.Endings.{refuse}
 use Rattle.rules.specs.Steps.{Steps, done, _>>=_, _>>_, stopIf}
 use Rattle.rules.specs.Access.{logicalFetch, secondHalfword}
@@ -15,9 +15,8 @@ use Rattle.rules.specs.Masks.{maskIn, extendedIn, atAny, allBits, rises,
 use Rattle.rules.specs.Call.{Call, expanded, Completion, complete}
 
 -- steps 1 to 6: the operand byte
-unfoldable pub maskOperand : Call → Steps ℕ
-maskOperand c = do
-  let g = c .guest
+unfoldable pub maskOperand : Guest → Steps ℕ
+maskOperand g = do
   stopIf (not (eqb (word 0 1 (g .cr6)) 0b10)) refuse  -- 1
   creg ← miccreg 2 g  -- 2
   control ← controlWord 3 (addressIn creg)  -- 3
@@ -49,6 +48,6 @@ maskTarget c new = do
 
 unfoldable pub setSystemMask : Call → Steps Completion
 setSystemMask c = do
-  new ← maskOperand c
+  new ← maskOperand (c .guest)
   at ← maskTarget c new
   complete c 4 (store at 1 new ∷ [])  -- 10

@@ -6,10 +6,15 @@ use mathlib.Core.Bool.{Bool, true, false}
 use mathlib.Core.List.{List}
 use lib.ListN.{length}
 use Rattle.rules.specs.declared.endings.Ending.{Ending}
+use Rattle.rules.specs.declared.endings.Ending.the-variants.{Completed}
 use Rattle.rules.specs.declared.guest.Guest.{Guest}
+use Rattle.rules.specs.declared.call.Call.{Call}
+use Rattle.rules.specs.declared.answer.Answer.{Answer}
+use Rattle.rules.specs.Guest.{advance}
 use Rattle.rules.specs.Endings.{refuse}
-use Rattle.rules.specs.Machine.{Machine, Write}
+use Rattle.rules.specs.Machine.{Machine, Write, performAll}
 use Rattle.rules.specs.Steps.{Steps, done, branch, _>>=_, stopIf, endingAs}
+use Rattle.rules.specs.Call.{Completion, complete}
 use Rattle.rules.specs.Run.{Outcome, ended, gave, View, view}
 use Rattle.rules.proofs.Bind.{following, view-bind, endedAs, run-endingAs}
 use Rattle.storage.specs.Answers.{
@@ -23,6 +28,13 @@ use Rattle.storage.specs.Answers.{
   seen,
   later,
   refused,
+  Finished,
+  finished,
+  answer,
+  finish,
+  ending,
+  completion,
+  laterAnswer,
 }
 
 -- after n references more
@@ -176,3 +188,51 @@ module _ {m m′ : Machine} {t : Steps ℕ} {n : ℕ} (r : Stepped) (s ks : List
 -- what is left of t on m, wherever it has come to
 abbrev pub Left : {A : Type 0} → Machine → Steps A → Type 0
 Left {A} m t = (n : ℕ) × (m′ : Machine) × (u : Steps A) × Runs m t n m′ u
+
+-- ---- an instruction's answer
+
+module _ {v : View Completion} (g : Guest) (x : Answer) (s ks : List ℕ) where
+  -- a step stopped
+  pub ended-by : (r : Stepped) {e : Ending} {c : ℕ} → x ≡ ending r g → r ≡ Stopped e c → over e c (machine s ks) ≡ v
+      → finished x s ks ≡ finish g v
+  ended-by r a b f = ap (λ y. finished y s ks) (a ∙ ap (λ r. ending r g) b) ∙ ap (finish g) f
+
+  -- a test stopped
+  pub stopped-by : {e : Ending} {c : ℕ} → x ≡ answer e c g → over e c (machine s ks) ≡ v
+      → finished x s ks ≡ finish g v
+  stopped-by a f = ap (λ y. finished y s ks) a ∙ ap (finish g) f
+
+-- the writes were made
+pub completes : {m m′ : Machine} {t : Steps Completion} {n : ℕ} (c : Call) (x : Answer) (s ks : List ℕ) (bytes : ℕ)
+    (ws : List Write) → Runs m t n m′ (complete c bytes ws) → x ≡ completion c bytes n (length ws)
+    → machine s ks ≡ performAll m′ ws → finished x s ks ≡ finish (c .guest) (seen t m)
+unfolding complete
+completes {m} {m′} {t} {n} c x s ks bytes ws h a b =
+    ap (λ y. finished y s ks) a
+    ∙ ap (λ l. record { answer = completion c bytes n (length ws); after = l }) b
+    ∙ ap (finish (c .guest)) (settles (record { guest = advance (c .guest) bytes; writes = ws }) h)
+
+-- another instruction's answer handed on
+abbrev deferred : ℕ → Finished → Finished
+deferred n f = record { answer = laterAnswer n (f .answer); after = f .after }
+
+finish-more : (n : ℕ) (g : Guest) (v : View Completion) → finish g (more n v) ≡ deferred n (finish g v)
+finish-more n g v = go (v .outcome) (v .count) (v .left)
+  where
+    go : (o : Outcome Completion) (k : ℕ) (l : Machine)
+        → let v : View Completion = record { outcome = o; count = k; left = l } in
+        finish g (more n v) ≡ deferred n (finish g v)
+    go (ended e) k l = refl
+    go (gave c) k l =
+        ap (λ z. finished (answer Completed z (c .guest)) (performAll l (c .writes) .storage) (performAll l (c .writes) .keys))
+        (let z : ((n + k) % 2 ^ 32 + length (c .writes)) % 2 ^ 32 ≡ (n + (k + length (c .writes)) % 2 ^ 32) % 2 ^ 32 =
+        omega arith in z)
+
+pub finishes : {m m′ : Machine} {t u : Steps Completion} {n : ℕ} (g : Guest) (x y : Answer) (s ks : List ℕ)
+    → Runs m t n m′ u → y ≡ laterAnswer n x → finished x s ks ≡ finish g (seen u m′)
+    → finished y s ks ≡ finish g (seen t m)
+finishes {m} {m′} {t} {u} {n} g x y s ks h a f =
+    ap (λ y. finished y s ks) a
+    ∙ ap (deferred n) f
+    ∙ sym (finish-more n g (seen u m′))
+    ∙ ap (finish g) (sym (h .so))

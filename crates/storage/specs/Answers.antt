@@ -6,7 +6,9 @@ use Rattle.rules.specs.declared.endings.Ending.{Ending}
 use Rattle.rules.specs.declared.endings.Ending.the-variants.{Completed}
 use Rattle.rules.specs.declared.guest.Guest.{Guest}
 use Rattle.rules.specs.declared.answer.Answer.{Answer}
+use Rattle.rules.specs.declared.call.Call.{Call}
 use Rattle.rules.specs.Endings.{refuse}
+use Rattle.rules.specs.Guest.{advance}
 use Rattle.rules.specs.Machine.{Machine, performAll}
 use Rattle.rules.specs.Steps.{Steps}
 use Rattle.rules.specs.Run.{Outcome, ended, gave, View, view}
@@ -71,3 +73,15 @@ finish g x = by (x .outcome) (x .count) (x .left)
       answer = answer Completed ((n + length (c .writes)) % 2 ^ 32) (c .guest);
       after = performAll m (c .writes);
     }
+
+-- the answer where a step stopped (a value would complete nothing)
+abbrev pub ending : Stepped → Guest → Answer
+ending (Value v n) g = answer Completed n g
+ending (Stopped e n) g = answer e n g
+
+abbrev pub completion : Call → (bytes reads writes : ℕ) → Answer
+completion c bytes reads writes = answer Completed ((reads + writes) % 2 ^ 32) (advance (c .guest) bytes)
+
+-- after n references more
+abbrev pub laterAnswer : (n : ℕ) → Answer → Answer
+laterAnswer n a = answer (a .ending) ((n + a .count) % 2 ^ 32) (a .guest)

@@ -1,10 +1,13 @@
 // Items of storage, keys and stores, each at a real address, and the answer of a step of a reading program.
 
+mod answers;
 mod items;
 mod keys;
 mod steps;
 mod stores;
 
+pub use answers::answer_after;
+pub use answers::completed;
 pub use items::Item;
 pub use items::Width;
 pub use keys::protection_key;

@@ -55,7 +55,7 @@ attemptWith op wrong m c =
 -- SSM with MICVPSW whole, its pending bit too, as the address
 unfoldable pub pendingInAddress : Call → Steps Completion
 pendingInAddress c = do
-  new ← maskOperand c
+  new ← maskOperand (c .guest)
   vpsw ← micvpsw 7 (c .guest)
   first ← controlHalfword 8 vpsw
   let ec = extendedIn first

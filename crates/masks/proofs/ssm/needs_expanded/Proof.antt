@@ -1,0 +1,12 @@
+use Rattle.masks.proofs.Bools.{or-false}
+use borrow.Author.Needs.{needs}
+use Rattle.masks.proofs.ssm.needs_expanded.Statement.{statement}
+use Rattle.masks.proofs.ssm.needs_expanded.Tie as tie
+
+returns : tie.Need-returns
+returns c = simp (or-false, c .before .before .before .changes .ensures, c .before .before .changes2 .ensures, c .before .goes-up .ensures, c .goes-up2 .ensures)
+
+pub needs-expanded-spec : {M : Type 1} → statement M
+needs-expanded-spec =
+    tie.close
+    (tie.spec (λ c κs. search needs) (λ c κs. search needs) (λ c κs. search needs) (λ c κs. search needs) returns)

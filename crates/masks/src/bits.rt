@@ -1,0 +1,39 @@
+// The first halfword of the virtual PSW, and which bits of its byte 0, the system mask, change.
+ghost use mathlib.Core.Path.{_≡_};
+ghost use mathlib.Core.Bool.{not, _&&_};
+ghost use Prim.Native.Nat.{_<_};
+ghost use Rattle.rules.specs.Masks.{maskIn, extendedIn, atAny, allBits, rises};
+
+pub(crate) fn mask_in(first: u32) -> u32
+    ensures { λ r. ⌜ (r ≡ maskIn first) × (r < 256) ⌝ }
+{
+    first / 256 % 256
+}
+
+// Virtual PSW bit 12: the EC mode.
+pub(crate) fn is_extended(first: u32) -> bool
+    ensures { λ r. ⌜ r ≡ extendedIn first ⌝ }
+{
+    first / 8 % 2 == 1
+}
+
+// A bit goes from zero to one.
+pub(crate) fn goes_up(old: bool, new: bool) -> bool
+    ensures { λ r. ⌜ r ≡ (not old && new) ⌝ }
+{
+    !old & new
+}
+
+// Any bit of a mask goes from zero to one.
+pub(crate) fn any_rises(old: u32, new: u32) -> bool
+    ensures { λ r. ⌜ r ≡ atAny allBits (rises old new) ⌝ }
+{
+    goes_up(old / 128 % 2 == 1, new / 128 % 2 == 1)
+        | (goes_up(old / 64 % 2 == 1, new / 64 % 2 == 1)
+            | (goes_up(old / 32 % 2 == 1, new / 32 % 2 == 1)
+                | (goes_up(old / 16 % 2 == 1, new / 16 % 2 == 1)
+                    | (goes_up(old / 8 % 2 == 1, new / 8 % 2 == 1)
+                        | (goes_up(old / 4 % 2 == 1, new / 4 % 2 == 1)
+                            | (goes_up(old / 2 % 2 == 1, new / 2 % 2 == 1)
+                                | goes_up(old % 2 == 1, new % 2 == 1)))))))
+}

@@ -1,0 +1,113 @@
+// SET SYSTEM MASK (80), S format: the operand byte becomes byte 0 of the virtual PSW.
+ghost use mathlib.Core.Path.{_≡_};
+ghost use mathlib.Core.Bool.{not, _&&_, _||_};
+ghost use Rattle.rules.specs.SetSystemMask.{maskOperand, maskNeedsExpanded, maskRefused, maskTarget, setSystemMask};
+ghost use Rattle.storage.specs.Answers.{machine, told, seen, finished, finish};
+use crate::bits::any_rises;
+use crate::bits::goes_up;
+use crate::bits::is_extended;
+use crate::bits::mask_in;
+use rules::Answer;
+use rules::Call;
+use rules::Ending;
+use rules::Exception;
+use rules::Guest;
+use storage::Stepped;
+use storage::Width;
+
+// Steps 1 to 6: the operand byte.
+// Bit 1 of virtual control register 0 refuses before the second halfword is fetched (step 4).
+fn mask_operand(storage: &[u8], keys: &mut [u8], guest: Guest) -> Stepped
+    ensures { λ r. ⌜ told r (now (storage .entry)) (now (keys .exit)) ≡ seen (maskOperand guest) (machine (now (storage .entry)) (now (keys .entry))) ⌝ }
+{
+    let refuse = Ending::Interruption(Exception::PrivilegedOperation);
+    if guest.cr6 / 1073741824 % 4 != 2 {
+        return Stepped::Stopped(refuse, 0);
+    }
+    let creg = access::miccreg(storage, keys, 2, guest);
+    let Stepped::Value(block, fetched) = creg else {
+        return creg;
+    };
+    let ecblok = access::address_in(block);
+    let word = access::control_word(storage, keys, 3, ecblok).after(fetched);
+    let Stepped::Value(control, read) = word else {
+        return word;
+    };
+    if control / 1073741824 % 2 == 1 {
+        return Stepped::Stopped(refuse, read);
+    }
+    let second = access::second_halfword(storage, keys, guest).after(read);
+    let Stepped::Value(halfword, count) = second else {
+        return second;
+    };
+    let at = guest.effective(halfword);
+    access::logical_fetch(storage, keys, guest, Width::Byte, at).after(count)
+}
+
+// A bit changes.
+fn changes(old: bool, new: bool) -> bool
+    ensures { λ r. ⌜ r ≡ ((not old && new) || (not new && old)) ⌝ }
+{
+    goes_up(old, new) | goes_up(new, old)
+}
+
+// Step 9 in the EC mode.
+fn needs_expanded(waiting: bool, old: u32, new: u32) -> bool
+    ensures { λ r. ⌜ r ≡ maskNeedsExpanded waiting old new ⌝ }
+{
+    changes(old / 64 % 2 == 1, new / 64 % 2 == 1)
+        | changes(old / 4 % 2 == 1, new / 4 % 2 == 1)
+        | ((new / 128 % 2 == 1)
+            | ((new / 32 % 2 == 1) | ((new / 16 % 2 == 1) | (new / 8 % 2 == 1))))
+        | (waiting
+            & (goes_up(old / 2 % 2 == 1, new / 2 % 2 == 1) | goes_up(old % 2 == 1, new % 2 == 1)))
+}
+
+// Step 9 in the BC mode.
+fn is_refused(waiting: bool, old: u32, new: u32) -> bool
+    ensures { λ r. ⌜ r ≡ maskRefused waiting old new ⌝ }
+{
+    waiting & any_rises(old, new)
+}
+
+// Steps 7 to 9: the address of the virtual PSW, where the new mask may be put.
+fn mask_target(storage: &[u8], keys: &mut [u8], call: Call, new: u32) -> Stepped
+    ensures { λ r. ⌜ told r (now (storage .entry)) (now (keys .exit)) ≡ seen (maskTarget call new) (machine (now (storage .entry)) (now (keys .entry))) ⌝ }
+{
+    let guest = call.guest;
+    let field = access::micvpsw(storage, keys, 7, guest);
+    let Stepped::Value(vpsw, fetched) = field else {
+        return field;
+    };
+    let at = access::address_in(vpsw);
+    let halfword = access::control_halfword(storage, keys, 8, at).after(fetched);
+    let Stepped::Value(first, count) = halfword else {
+        return halfword;
+    };
+    let ec = is_extended(first);
+    let waiting = access::is_pending(vpsw);
+    let old = mask_in(first);
+    if ec & needs_expanded(waiting, old, new) {
+        return Stepped::Stopped(call.expanded(), count);
+    }
+    if !ec & is_refused(waiting, old, new) {
+        return Stepped::Stopped(Ending::Interruption(Exception::PrivilegedOperation), count);
+    }
+    Stepped::Value(at, count)
+}
+
+pub fn set_system_mask(storage: &mut [u8], keys: &mut [u8], call: Call) -> Answer
+    ensures { λ r. ⌜ finished r (now (storage .exit)) (now (keys .exit)) ≡ finish (call .guest) (seen (setSystemMask call) (machine (now (storage .entry)) (now (keys .entry)))) ⌝ }
+{
+    let guest = call.guest;
+    let operand = mask_operand(storage, keys, guest);
+    let Stepped::Value(new, read) = operand else {
+        return operand.ending(guest);
+    };
+    let target = mask_target(storage, keys, call, new).after(read);
+    let Stepped::Value(at, count) = target else {
+        return target.ending(guest);
+    };
+    storage::store_byte(storage, keys, at, new);
+    storage::completed(call, 4, count, 1)
+}

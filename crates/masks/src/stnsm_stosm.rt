@@ -1,0 +1,99 @@
+// STORE THEN AND SYSTEM MASK (AC) and STORE THEN OR SYSTEM MASK (AD), SI format: byte 0 of the virtual PSW is stored at
+// the operand, and is then ANDed, or ORed, with the immediate.
+ghost use mathlib.Core.Path.{_≡_};
+ghost use Rattle.rules.specs.StoreControl.{assistsControl};
+ghost use Rattle.rules.specs.StoreThenMask.{newMask, needsExpanded, byteOperand, storeThen};
+ghost use Rattle.storage.specs.Answers.{machine, told, seen, finished, finish};
+use crate::bits::any_rises;
+use crate::bits::goes_up;
+use crate::bits::is_extended;
+use crate::bits::mask_in;
+use rules::Answer;
+use rules::Call;
+use rules::Ending;
+use rules::Exception;
+use rules::Guest;
+use rules::MaskChange;
+use storage::Stepped;
+
+// Step 4: the new mask.
+fn new_mask(change: MaskChange, old: u32, immediate: u32) -> u32
+    ensures { λ r. ⌜ r ≡ newMask change old immediate ⌝ }
+{
+    match change {
+        MaskChange::And => old & immediate,
+        MaskChange::Or => old | immediate,
+    }
+}
+
+// And when the expanded assist is needed for it.
+fn needs_expanded(change: MaskChange, ec: bool, waiting: bool, old: u32, new: u32) -> bool
+    ensures { λ r. ⌜ r ≡ needsExpanded change ec waiting old new ⌝ }
+{
+    match change {
+        MaskChange::And => {
+            ec
+                & (goes_up(new / 64 % 2 == 1, old / 64 % 2 == 1)
+                    | goes_up(new / 4 % 2 == 1, old / 4 % 2 == 1))
+        }
+        MaskChange::Or => {
+            (ec
+                & (goes_up(old / 128 % 2 == 1, new / 128 % 2 == 1)
+                    | (goes_up(old / 64 % 2 == 1, new / 64 % 2 == 1)
+                        | (goes_up(old / 32 % 2 == 1, new / 32 % 2 == 1)
+                            | (goes_up(old / 16 % 2 == 1, new / 16 % 2 == 1)
+                                | (goes_up(old / 8 % 2 == 1, new / 8 % 2 == 1)
+                                    | goes_up(old / 4 % 2 == 1, new / 4 % 2 == 1)))))))
+                | (waiting & any_rises(old, new))
+        }
+    }
+}
+
+// Steps 5 and 6: the real address of the operand, tested for a store. Any access exception of the second halfword
+// refuses.
+fn byte_operand(storage: &[u8], keys: &mut [u8], guest: Guest) -> Stepped
+    ensures { λ r. ⌜ told r (now (storage .entry)) (now (keys .exit)) ≡ seen (byteOperand guest) (machine (now (storage .entry)) (now (keys .entry))) ⌝ }
+{
+    let second = access::second_halfword(storage, keys, guest).or_refuse();
+    let Stepped::Value(halfword, count) = second else {
+        return second;
+    };
+    access::store_test(storage, keys, guest, guest.effective(halfword)).after(count)
+}
+
+pub fn store_then(storage: &mut [u8], keys: &mut [u8], change: MaskChange, call: Call) -> Answer
+    ensures { λ r. ⌜ finished r (now (storage .exit)) (now (keys .exit)) ≡ finish (call .guest) (seen (storeThen change call) (machine (now (storage .entry)) (now (keys .entry)))) ⌝ }
+{
+    let guest = call.guest;
+    if !access::assists_control(guest) {
+        let refuse = Ending::Interruption(Exception::PrivilegedOperation);
+        return Stepped::Stopped(refuse, 0).ending(guest);
+    }
+    let field = access::micvpsw(storage, keys, 2, guest);
+    let Stepped::Value(vpsw, fetched) = field else {
+        return field.ending(guest);
+    };
+    let at = access::address_in(vpsw);
+    let halfword = access::control_halfword(storage, keys, 3, at).after(fetched);
+    let Stepped::Value(first, read) = halfword else {
+        return halfword.ending(guest);
+    };
+    let old = mask_in(first);
+    let new = new_mask(change, old, call.immediate());
+    if needs_expanded(
+        change,
+        is_extended(first),
+        access::is_pending(vpsw),
+        old,
+        new,
+    ) {
+        return Stepped::Stopped(call.expanded(), read).ending(guest);
+    }
+    let operand = byte_operand(storage, keys, guest).after(read);
+    let Stepped::Value(real, count) = operand else {
+        return operand.ending(guest);
+    };
+    storage::store_byte(storage, keys, real, old);
+    storage::store_byte(storage, keys, at, new);
+    storage::completed(call, 4, count, 2)
+}

@@ -1,0 +1,53 @@
+// The answer of an instruction, from the answer of its last step.
+ghost use mathlib.Core.Path.{_≡_};
+ghost use Rattle.storage.specs.Answers.{ending, completion, laterAnswer};
+use crate::steps::Stepped;
+use rules::Answer;
+use rules::Call;
+use rules::Ending;
+use rules::Guest;
+
+impl Stepped {
+    // A step that stopped ends the attempt; the record is handed back as it was.
+    pub fn ending(self, guest: Guest) -> Answer
+        ensures { λ r. ⌜ r ≡ ending self guest ⌝ }
+    {
+        match self {
+            Stepped::Value(_, count) => Answer {
+                ending: Ending::Completed,
+                count,
+                guest,
+            },
+            Stepped::Stopped(e, count) => Answer {
+                ending: e,
+                count,
+                guest,
+            },
+        }
+    }
+}
+
+// Completion: the instruction address moved on by so many bytes, after so many reads and writes.
+pub fn completed(call: Call, bytes: u32, reads: u32, writes: u32) -> Answer
+    ensures { λ r. ⌜ r ≡ completion call bytes reads writes ⌝ }
+{
+    let guest = call.guest;
+    Answer {
+        ending: Ending::Completed,
+        count: std::num::wrapping_add_u32(reads, writes),
+        guest: guest.advance(bytes),
+    }
+}
+
+// An answer after n references more.
+pub fn answer_after(answer: Answer, n: u32) -> Answer
+    ensures { λ r. ⌜ r ≡ laterAnswer n answer ⌝ }
+{
+    let ending = answer.ending;
+    let guest = answer.guest;
+    Answer {
+        ending,
+        count: std::num::wrapping_add_u32(n, answer.count),
+        guest,
+    }
+}

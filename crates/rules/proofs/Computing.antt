@@ -5,7 +5,7 @@ use Rattle.rules.specs.Access.{realOf, access, storeTest, logicalFetch, 
 use Rattle.rules.specs.ControlFields.{controlWord, controlHalfword, micrseg, miccreg, micvpsw}
 use Rattle.rules.specs.Call.{complete}
 use Rattle.rules.specs.SetSystemMask.{maskOperand, maskTarget, setSystemMask}
-use Rattle.rules.specs.StoreControl.{virtualRegisters, operandWords, controlBlock, wordOperand, storeControl}
+use Rattle.rules.specs.StoreControl.{gather, controlBlock, wordOperand, storeControl}
 use Rattle.rules.specs.StoreThenMask.{byteOperand, storeThen}
 use Rattle.rules.specs.SetStorageKey.{
   storeSwapWord,
@@ -33,7 +33,7 @@ unfolding fetching maskOperand maskTarget setSystemMask byteOperand storeThen
 masking = tt
 
 unfoldable pub storing : Unit {0}
-unfolding fetching virtualRegisters operandWords controlBlock wordOperand storeControl
+unfolding fetching gather controlBlock wordOperand storeControl
 storing = tt
 
 unfoldable pub keying : Unit {0}

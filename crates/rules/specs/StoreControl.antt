@@ -17,23 +17,24 @@ use Rattle.rules.specs.Call.{Call, r1, r3, Completion, complete}
 abbrev pub assistsControl : Guest → Bool
 assistsControl g = eqb (word 0 1 (g .cr6)) 0b10 && not (bit 32 3 (g .cr6))
 
--- how many registers R1 and R3 name; the register after 15 is register 0
+-- how many registers R1 and R3 name
 abbrev pub registerCount : (r1 r3 : ℕ) → ℕ
 registerCount r1 r3 = (r3 + 16 - r1) % 16 + 1
 
--- n virtual control registers from r on, after the values found so far
-unfoldable pub virtualRegisters : (ecblok : ℕ) (found : List ℕ) (r n : ℕ) → Steps (List ℕ)
-virtualRegisters ecblok found r zero = done found
-virtualRegisters ecblok found r (suc n) = do
-  value ← controlWord 5 (ecblok ⊕ 4 * (r % 16))
-  virtualRegisters ecblok (found ++ value ∷ []) (r + 1) n
+-- p at x, at the next after x, and so on n times: what it gives, after what was found so far
+unfoldable pub gather : (p : ℕ → Steps ℕ) (next : ℕ → ℕ) (found : List ℕ) (x n : ℕ) → Steps (List ℕ)
+gather p next found x zero = done found
+gather p next found x (suc n) = do
+  value ← p x
+  gather p next (found ++ value ∷ []) (next x) n
 
--- n operand words from an address on, each tested for a store: their real addresses, after those found so far
-unfoldable pub operandWords : Guest → (found : List ℕ) (address n : ℕ) → Steps (List ℕ)
-operandWords g found address zero = done found
-operandWords g found address (suc n) = do
-  real ← storeTest g address
-  operandWords g (found ++ real ∷ []) (address ⊕ 4) n
+-- n virtual control registers from r on; the register after 15 is register 0
+abbrev pub virtualRegisters : (ecblok r n : ℕ) → Steps (List ℕ)
+virtualRegisters ecblok r n = gather (λ r. controlWord 5 (ecblok ⊕ 4 * (r % 16))) (λ r. r + 1) [] r n
+
+-- n operand words from an address on, each tested for a store: their real addresses
+abbrev pub operandWords : Guest → (address n : ℕ) → Steps (List ℕ)
+operandWords g address n = gather (storeTest g) (λ a. a ⊕ 4) [] address n
 
 -- each word at the real address found for it
 abbrev pub wordStores : (reals values : List ℕ) → List Write
@@ -60,6 +61,6 @@ storeControl c = do
   ecblok ← controlBlock (c .guest)
   address ← wordOperand (c .guest)
   let n = registerCount (r1 c) (r3 c)
-  values ← virtualRegisters ecblok [] (r1 c) n  -- 5: the registers, then the tests, and only then the stores
-  reals ← operandWords (c .guest) [] address n
+  values ← virtualRegisters ecblok (r1 c) n  -- 5: the registers, then the tests, and only then the stores
+  reals ← operandWords (c .guest) address n
   complete c 4 (wordStores reals values)

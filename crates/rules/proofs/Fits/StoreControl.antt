@@ -1,17 +1,19 @@
 -- STORE CONTROL: how it can end, and at most 85 references.
 use Prim.Native.Nat.{ℕ, zero, suc, _+_, _*_, _^_, _≤_, _<_}
 use native.Mathlib.Omega.{arith}
+use native.Mathlib.Nat.{suc-mul}
 use mathlib.Core.Path.{_≡_, refl, _∙_}
 use mathlib.Core.List.{List, [], _∷_, _++_}
 use lib.ListN.{length, length-append}
 use Rattle.rules.specs.Machine.{_⊕_}
 use Rattle.rules.specs.Guest.{Guest, instructionAddress}
-use Rattle.rules.specs.Steps.{_>>=_, fetchBytes, stopIf}
+use Rattle.rules.specs.Steps.{Steps, _>>=_, fetchBytes, stopIf}
 use Rattle.rules.specs.Access.{access, storeTest, secondHalfword}
 use Rattle.rules.specs.ControlFields.{controlWord, miccreg, addressIn}
 use Rattle.rules.specs.Call.{Call, r1, r3, complete}
 use Rattle.rules.specs.StoreControl.{
   registerCount,
+  gather,
   virtualRegisters,
   operandWords,
   wordStores,
@@ -19,7 +21,7 @@ use Rattle.rules.specs.StoreControl.{
   wordOperand,
   storeControl,
 }
-use Rattle.rules.proofs.Within.{Within, within-then}
+use Rattle.rules.proofs.Within.{Within, Any, within-then}
 use Rattle.rules.proofs.Fits.{completes, Stops, stops, Exceptions, access-within, logicalFetch-within, Completes, completes-more, Fits, exceptions}
 
 stctl-exceptions : (a : ℕ) → a < 2 ^ 24 → Exceptions (Stops 0xb6) a
@@ -32,25 +34,29 @@ Many n xs = length xs ≡ n
 append-many : (n : ℕ) (xs : List ℕ) (x : ℕ) → Many n xs → Many (suc n) (xs ++ x ∷ [])
 append-many n xs x h = length-append xs (x ∷ []) ∙ (let g : length xs + 1 ≡ suc n = omega arith in g)
 
-virtualRegisters-within : (ecblok : ℕ) (found : List ℕ) (r n i all : ℕ) → n + i ≡ all → Many i found
-    → Within (Stops 0xb6) (λ xs k. Many all xs) (virtualRegisters ecblok found r n) n
-unfolding _>>=_ fetchBytes controlWord virtualRegisters
-virtualRegisters-within ecblok found r zero i all e h = omega arith
-virtualRegisters-within ecblok found r (suc n) i all e h = (
-  stops refl refl refl,
-  λ v. virtualRegisters-within ecblok (found ++ v ∷ []) (r + 1) n (suc i) all (omega arith) (append-many i found v h),
-)
+-- a step of k references, n times, where each place has P
+module _ (p : ℕ → Steps ℕ) (next : ℕ → ℕ) (P : ℕ → Type 0) (k : ℕ)
+    (each : (x : ℕ) → P x → Within (Stops 0xb6) Any (p x) k) (on : (x : ℕ) → P x → P (next x)) where
+  gather-within : (found : List ℕ) (x n i all : ℕ) → P x → n + i ≡ all → Many i found
+      → Within (Stops 0xb6) (λ xs j. Many all xs) (gather p next found x n) (n * k)
+  unfolding gather
+  gather-within found x zero i all h e f = omega arith
+  gather-within found x (suc n) i all h e f =
+      within-then (Stops 0xb6) (λ v. Unit {0}) (λ xs j. Many all xs) (λ xs j k l h. h) (p x) _
+      k (n * k) (suc n * k) (rw suc-mul (omega arith)) (each x h)
+      (λ v t. gather-within (found ++ v ∷ []) (next x) n (suc i) all (on x h) (omega arith) (append-many i found v f))
 
-operandWords-within : (g : Guest) (found : List ℕ) (a n i all : ℕ) → a < 2 ^ 24 → n + i ≡ all → Many i found
-    → Within (Stops 0xb6) (λ xs k. Many all xs) (operandWords g found a n) (3 * n)
-unfolding storeTest operandWords
-operandWords-within g found a zero i all l e h = omega arith
-operandWords-within g found a (suc n) i all l e h =
-    within-then (Stops 0xb6) (λ real. Unit {0}) (λ xs k. Many all xs) (λ xs j k l h. h) (access _ g a) _
-    3 (3 * n) (3 * suc n) (omega arith)
-    (access-within (Stops 0xb6) _ g a (stctl-exceptions a l))
-    (λ real t. operandWords-within g (found ++ real ∷ []) (a ⊕ 4) n (suc i) all (omega arith) (omega arith)
-    (append-many i found real h))
+registers-within : (ecblok r n : ℕ) → Within (Stops 0xb6) (λ xs j. Many n xs) (virtualRegisters ecblok r n) (n * 1)
+unfolding fetchBytes controlWord
+registers-within ecblok r n =
+    gather-within _ _ (λ r. Unit {0}) 1 (λ r t. (stops refl refl refl, λ v. tt)) (λ r t. t) [] r n 0 n tt (omega arith) refl
+
+operands-within : (g : Guest) (a n : ℕ) → a < 2 ^ 24
+    → Within (Stops 0xb6) (λ xs j. Many n xs) (operandWords g a n) (n * 3)
+unfolding storeTest
+operands-within g a n l =
+    gather-within _ _ (λ a. a < 2 ^ 24) 3 (λ a l. access-within (Stops 0xb6) _ g a (stctl-exceptions a l))
+    (λ a l. omega arith) [] a n 0 n l (omega arith) refl
 
 wordStores-few : (reals values : List ℕ) → length (wordStores reals values) ≤ length reals
 wordStores-few [] values = omega arith
@@ -60,18 +66,19 @@ wordStores-few (real ∷ reals) (value ∷ values) = let h = wordStores-few real
 storeRegisters-fits : (c : Call) (ecblok a : ℕ) → a < 2 ^ 24
     → let n = registerCount (r1 c) (r3 c) in
     Fits 0xb6 c
-    (virtualRegisters ecblok [] (r1 c) n
-    >>= λ values. operandWords (c .guest) [] a n >>= λ reals. complete c 4 (wordStores reals values)) 80
+    (virtualRegisters ecblok (r1 c) n
+    >>= λ values. operandWords (c .guest) a n >>= λ reals. complete c 4 (wordStores reals values)) 80
 unfolding complete
 storeRegisters-fits c ecblok a l =
     let n = registerCount (r1 c) (r3 c) in
     let E = Stops 0xb6 in
     let G = Completes 0xb6 c in
-    within-then E (Many n) G (completes-more 0xb6 c) (virtualRegisters ecblok [] (r1 c) n) _ n (4 * n) 80 (omega arith)
-    (virtualRegisters-within ecblok [] (r1 c) n 0 n (omega arith) refl)
-    (λ values h. within-then E (Many n) G (completes-more 0xb6 c) (operandWords (c .guest) [] a n) _
-    (3 * n) n (4 * n) (omega arith)
-    (operandWords-within (c .guest) [] a n 0 n l (omega arith) refl)
+    within-then E (Many n) G (completes-more 0xb6 c) (virtualRegisters ecblok (r1 c) n) _
+    (n * 1) (n * 4) 80 (omega arith)
+    (registers-within ecblok (r1 c) n)
+    (λ values h. within-then E (Many n) G (completes-more 0xb6 c) (operandWords (c .guest) a n) _
+    (n * 3) n (n * 4) (omega arith)
+    (operands-within (c .guest) a n l)
     (λ reals k. completes refl refl (let w = wordStores-few reals values in omega arith)))
 
 wordOperand-within : (g : Guest) → Within (Stops 0xb6) (λ a k. a < 2 ^ 24) (wordOperand g) 4

@@ -89,7 +89,7 @@ registersToStore m c = do
   creg ← miccreg 2 g
   second ← secondHalfword g
   stopIf (not (eqb (effective g second % 4) 0)) refuse
-  values ← virtualRegisters (addressIn creg) [] (r1 c) (registerCount (r1 c) (r3 c))
+  values ← virtualRegisters (addressIn creg) (r1 c) (registerCount (r1 c) (r3 c))
   done (record { address = effective g second; values = values })
 
 unfoldable pub storeEarly : Program

@@ -1,0 +1,3 @@
+-- Laws of the loops.
+pub mod Turns
+pub mod Words

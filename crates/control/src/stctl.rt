@@ -1,0 +1,45 @@
+// The whole instruction. Nothing is stored before the last word is tested.
+ghost use mathlib.Core.Path.{_≡_};
+ghost use Rattle.rules.specs.StoreControl.{storeControl};
+ghost use Rattle.storage.specs.Answers.{machine, seen, finished, finish};
+use crate::gathered::operand_words;
+use crate::gathered::virtual_registers;
+use crate::operand::control_block;
+use crate::operand::register_count;
+use crate::operand::word_operand;
+use crate::stores::store_words;
+use rules::Answer;
+use rules::Call;
+use storage::Stepped;
+
+pub fn store_control(storage: &mut [u8], keys: &mut [u8], call: Call) -> Answer
+    ensures { λ r. ⌜ finished r (now (storage .exit)) (now (keys .exit)) ≡ finish (call .guest) (seen (storeControl call) (machine (now (storage .entry)) (now (keys .entry)))) ⌝ }
+{
+    let guest = call.guest;
+    let block = control_block(storage, keys, guest);
+    let Stepped::Value(ecblok, fetched) = block else {
+        return block.ending(guest);
+    };
+    let operand = word_operand(storage, keys, guest).after(fetched);
+    let Stepped::Value(address, read) = operand else {
+        return operand.ending(guest);
+    };
+    let first = call.r1();
+    let n = register_count(first, call.r2());
+    let registers = virtual_registers(storage, keys, ecblok, first, n);
+    let gathered = registers.last;
+    let last = gathered.after(read);
+    let Stepped::Value(_, known) = last else {
+        return last.ending(guest);
+    };
+    let words = operand_words(storage, keys, guest, address, n);
+    let tested = words.last;
+    let end = tested.after(known);
+    let Stepped::Value(_, count) = end else {
+        return end.ending(guest);
+    };
+    let reals = words.words;
+    let values = registers.words;
+    store_words(storage, keys, reals, values, n);
+    storage::completed(call, 4, count, n)
+}

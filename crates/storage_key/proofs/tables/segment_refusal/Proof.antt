@@ -1,0 +1,30 @@
+use borrow.Author.Needs.{needs}
+use Rattle.storage_key.proofs.tables.segment_refusal.Statement.{statement}
+use Rattle.storage_key.proofs.tables.segment_refusal.Tie as tie
+
+returns : tie.Need-returns
+returns c = simp (c .enum-told .given .1)
+
+returns-3 : tie.Need-returns-3
+returns-3 c = simp (c .enum-told3 .given .1)
+
+returns-4 : tie.Need-returns-4
+returns-4 c = simp (c .enum-told4 .given .1)
+
+returns-5 : tie.Need-returns-5
+returns-5 c = simp (c .enum-told5 .given .1)
+
+pub segment-refusal-spec : {M : Type 1} → statement M
+segment-refusal-spec =
+    tie.close
+    (tie.spec
+    (λ c. search needs)
+    (λ c. search needs)
+    (λ c. search needs)
+    (λ c. search needs)
+    (λ c. search needs)
+    returns
+    (λ c. search needs)
+    returns-3
+    returns-4
+    returns-5)

@@ -1,0 +1,81 @@
+// The whole instruction.
+ghost use mathlib.Core.Path.{_≡_};
+ghost use Rattle.rules.specs.SetStorageKey.{setKeyIn, setStorageKey};
+ghost use Rattle.storage.specs.Answers.{machine, seen, finished, finish};
+use crate::keys::address_word;
+use crate::keys::key_word;
+use crate::keys::new_key;
+use crate::keys::swap_with;
+use crate::tables::format_in;
+use crate::tables::page_of;
+use crate::tables::refused;
+use crate::tables::segment_table;
+use crate::tables::swap_word_at;
+use rules::Answer;
+use rules::Call;
+use rules::Ending;
+use rules::Format;
+use storage::Stepped;
+
+// Steps 7 to 12, for a format, a segment entry and an address.
+fn set_key_in(
+    storage: &mut [u8],
+    keys: &mut [u8],
+    call: Call,
+    format: Format,
+    segment: u32,
+    at: u32,
+) -> Answer
+    ensures { λ r. ⌜ finished r (now (storage .exit)) (now (keys .exit)) ≡ finish (call .guest) (seen (setKeyIn call format segment at) (machine (now (storage .entry)) (now (keys .entry)))) ⌝ }
+{
+    let guest = call.guest;
+    let found = swap_word_at(storage, keys, format, segment, at);
+    let Stepped::Value(place, fetched) = found else {
+        return found.ending(guest);
+    };
+    let field = access::control_word(storage, keys, 8, place).after(fetched);
+    let Stepped::Value(word, read) = field else {
+        return field.ending(guest);
+    };
+    let entry = page_of(storage, keys, format, segment, at).after(read);
+    let Stepped::Value(page, count) = entry else {
+        return entry.ending(guest);
+    };
+    let key = key_word(call);
+    let upper = address_word(call) / 2048 % 2 == 1;
+    if access::is_invalid(format, page) {
+        storage::store_word(storage, keys, place, swap_with(upper, word, key, 0));
+        return storage::completed(call, 2, count, 1);
+    }
+    let block = access::real_address(format, page, at) / 2048;
+    let consulted = storage::whole_key(keys, block, Ending::FieldMissing(11)).after(count);
+    let Stepped::Value(old, known) = consulted else {
+        return consulted.ending(guest);
+    };
+    storage::set_key(keys, block, new_key(key, old));
+    storage::store_word(
+        storage,
+        keys,
+        place,
+        swap_with(upper, word, key, old / 2 % 4),
+    );
+    storage::completed(call, 2, known, 2)
+}
+
+pub fn set_storage_key(storage: &mut [u8], keys: &mut [u8], call: Call) -> Answer
+    ensures { λ r. ⌜ finished r (now (storage .exit)) (now (keys .exit)) ≡ finish (call .guest) (seen (setStorageKey call) (machine (now (storage .entry)) (now (keys .entry)))) ⌝ }
+{
+    let guest = call.guest;
+    let at = address_word(call) % 16777216;
+    let table = segment_table(storage, keys, call);
+    let Stepped::Value(rseg, fetched) = table else {
+        return table.ending(guest);
+    };
+    let format = format_in(rseg);
+    let walked = access::segment_entry(storage, keys, format, rseg, at);
+    let entry = refused(walked).after(fetched);
+    let Stepped::Value(segment, count) = entry else {
+        return entry.ending(guest);
+    };
+    storage::answer_after(set_key_in(storage, keys, call, format, segment, at), count)
+}

@@ -1,0 +1,113 @@
+// Steps 1 to 10: the way to the swap word and the page.
+ghost use mathlib.Core.Path.{_≡_};
+ghost use Rattle.rules.specs.SetStorageKey.{formatIn, segmentRefusal, segmentTable, swapWordAt, pageOf};
+ghost use Rattle.storage.specs.Answers.{machine, told, seen};
+ghost use Rattle.access.specs.Walks.{endedBy};
+use crate::keys::address_word;
+use access::Walked;
+use rules::Call;
+use rules::Ending;
+use rules::Exception;
+use rules::Format;
+use rules::PageSize;
+use rules::SegmentFault;
+use rules::SegmentSize;
+use storage::Stepped;
+
+// Steps 1 to 3: MICRSEG.
+pub(crate) fn segment_table(storage: &[u8], keys: &mut [u8], call: Call) -> Stepped
+    ensures { λ r. ⌜ told r (now (storage .entry)) (now (keys .exit)) ≡ seen (segmentTable call) (machine (now (storage .entry)) (now (keys .entry))) ⌝ }
+{
+    let refuse = Ending::Interruption(Exception::PrivilegedOperation);
+    let guest = call.guest;
+    if (guest.cr6 / 536870912 % 8 != 4) | (address_word(call) % 16 != 0) {
+        return Stepped::Stopped(refuse, 0);
+    }
+    let field = access::micrseg(storage, keys, 2, guest);
+    let Stepped::Value(rseg, count) = field else {
+        return field;
+    };
+    if rseg / 2 % 2 == 1 {
+        return Stepped::Stopped(refuse, count);
+    }
+    Stepped::Value(rseg, count)
+}
+
+// Step 4: 4K pages; bit 31 of MICRSEG chooses 1M segments.
+pub(crate) fn format_in(rseg: u32) -> Format
+    ensures { λ r. ⌜ r ≡ formatIn rseg ⌝ }
+{
+    if rseg % 2 == 1 {
+        return Format {
+            page: PageSize::FourK,
+            segment: SegmentSize::OneM,
+        };
+    }
+    Format {
+        page: PageSize::FourK,
+        segment: SegmentSize::SixtyFourK,
+    }
+}
+
+// Steps 4 to 6: an entry that is not in storage gives 3, all other faults refuse.
+fn segment_refusal(fault: SegmentFault) -> Ending
+    ensures { λ r. ⌜ r ≡ segmentRefusal fault ⌝ }
+{
+    let refuse = Ending::Interruption(Exception::PrivilegedOperation);
+    match fault {
+        SegmentFault::SegmentTableLength => refuse,
+        SegmentFault::SegmentEntryMissing => Ending::FieldMissing(5),
+        SegmentFault::SegmentInvalid => refuse,
+        SegmentFault::SegmentFormat => refuse,
+        SegmentFault::PageTableLength => refuse,
+    }
+}
+
+pub(crate) fn refused(walked: Walked) -> Stepped
+    ensures { λ r. ⌜ r ≡ endedBy segmentRefusal walked ⌝ }
+{
+    match walked {
+        Walked::Entry(entry, count) => Stepped::Value(entry, count),
+        Walked::Fault(fault, count) => Stepped::Stopped(segment_refusal(fault), count),
+    }
+}
+
+// Step 7: the address of the swap word, from the word at the page-table origin less 4.
+pub(crate) fn swap_word_at(
+    storage: &[u8],
+    keys: &mut [u8],
+    format: Format,
+    segment: u32,
+    at: u32,
+) -> Stepped
+    ensures { λ r. ⌜ told r (now (storage .entry)) (now (keys .exit)) ≡ seen (swapWordAt format segment at) (machine (now (storage .entry)) (now (keys .entry))) ⌝ }
+{
+    let place = rules::difference(access::page_table(segment), 4);
+    let field = access::control_word(storage, keys, 7, place);
+    let Stepped::Value(table, count) = field else {
+        return field;
+    };
+    let offset = 8 * access::page_index(format, at);
+    Stepped::Value(rules::sum(access::address_in(table), offset), count)
+}
+
+// Steps 9 and 10: the page entry.
+pub(crate) fn page_of(
+    storage: &[u8],
+    keys: &mut [u8],
+    format: Format,
+    segment: u32,
+    at: u32,
+) -> Stepped
+    ensures { λ r. ⌜ told r (now (storage .entry)) (now (keys .exit)) ≡ seen (pageOf format segment at) (machine (now (storage .entry)) (now (keys .entry))) ⌝ }
+{
+    let place = access::page_entry_at(format, segment, at);
+    let field = access::control_halfword(storage, keys, 9, place);
+    let Stepped::Value(page, count) = field else {
+        return field;
+    };
+    if !access::is_invalid(format, page) & access::is_malformed(format, page) {
+        return Stepped::Stopped(Ending::Interruption(Exception::PrivilegedOperation), count);
+    }
+    Stepped::Value(page, count)
+}

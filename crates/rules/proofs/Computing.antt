@@ -16,7 +16,7 @@ use Rattle.rules.specs.SetStorageKey.{
   segmentTable,
   setStorageKey,
 }
-use Rattle.rules.specs.Attempt.{sizesFit, assisted, instruction, program}
+use Rattle.rules.specs.Attempt.{instruction, program}
 
 -- what every instruction reads by
 unfoldable pub walking : Unit {0}
@@ -41,5 +41,5 @@ unfolding fetching storeSwapWord setBlockKey swapWordAt pageOf setKeyIn segmentT
 keying = tt
 
 unfoldable pub computing : Unit {0}
-unfolding masking storing keying sizesFit assisted instruction program
+unfolding masking storing keying instruction program
 computing = tt

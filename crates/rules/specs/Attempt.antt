@@ -18,7 +18,7 @@ pub use Rattle.rules.specs.declared.answer.Answer.{Answer}
 use Rattle.rules.specs.Guest.{Guest, instructionAddress, extendedControl, problemState}
 use Rattle.rules.specs.Machine.{Machine, performAll}
 use Rattle.rules.specs.References.{Reference, entry}
-use Rattle.rules.specs.Steps.{Steps, stop, branch, _>>=_, _>>_, stopIf}
+use Rattle.rules.specs.Steps.{Steps, branch, _>>=_, _>>_, stopIf}
 use Rattle.rules.specs.Run.{Outcome, ended, gave, Run, run}
 use Rattle.rules.specs.Call.{Call, operation, Completion}
 use Rattle.rules.specs.SetSystemMask.{setSystemMask}
@@ -36,43 +36,42 @@ wrongStorage bytes = not (eqb (bytes % 2048) 0) || ltb bytes 2048 || ltb 1677721
 abbrev pub wrongKeys : (bytes keys : ℕ) → Bool
 wrongKeys bytes keys = not (eqb keys (bytes / 2048))
 
-unfoldable pub sizesFit : (bytes keys : ℕ) → Steps (Unit {0})
-sizesFit bytes keys = do
-  stopIf (wrongStorage bytes) WrongStorageSize
-  stopIf (wrongKeys bytes keys) WrongKeyCount
+-- 12: the instruction address is odd
+abbrev pub oddAddress : Guest → Bool
+oddAddress g = not (eqb (instructionAddress g % 2) 0)
+
+-- 13: the operation code is none of the five
+abbrev pub isAssisted : (operation : ℕ) → Bool
+isAssisted op = eqb op 0x80 || eqb op 0xb6 || eqb op 0xac || eqb op 0xad || eqb op 0x08
 
 -- 9: real PSW bit 12 or bit 15 is zero
 abbrev pub wrongMode : Guest → Bool
 wrongMode g = not (extendedControl g) || not (problemState g)
 
--- the instruction, where the real PSW admits it
-unfoldable pub assisted : (Call → Steps Completion) → Call → Steps Completion
-assisted instruction c = do
-  stopIf (wrongMode (c .guest)) WrongMode
-  instruction c
+-- ---- the instruction, by its operation code: 08 is the one of the five that is left
 
--- by operation code; 13 where it is none of the five
 unfoldable pub instruction : Call → Steps Completion
 instruction c =
-    branch (eqb (operation c) 0x80) (assisted setSystemMask c)
-    (branch (eqb (operation c) 0xb6) (assisted storeControl c)
-    (branch (eqb (operation c) 0xac) (assisted storeThenAnd c)
-    (branch (eqb (operation c) 0xad) (assisted storeThenOr c)
-    (branch (eqb (operation c) 0x08) (assisted setStorageKey c)
-    (stop NotAssisted)))))
+    branch (eqb (operation c) 0x80) (setSystemMask c)
+    (branch (eqb (operation c) 0xb6) (storeControl c)
+    (branch (eqb (operation c) 0xac) (storeThenAnd c)
+    (branch (eqb (operation c) 0xad) (storeThenOr c)
+    (setStorageKey c))))
 
--- 12, before them: the instruction address is odd
-abbrev pub oddAddress : Guest → Bool
-oddAddress g = not (eqb (instructionAddress g % 2) 0)
-
-unfoldable pub program : Call → Steps Completion
-program c = do
+-- the whole, in a storage of so many bytes with so many keys
+unfoldable pub program : (bytes keys : ℕ) → Call → Steps Completion
+program bytes keys c = do
+  stopIf (wrongStorage bytes) WrongStorageSize
+  stopIf (wrongKeys bytes keys) WrongKeyCount
   stopIf (oddAddress (c .guest)) OddInstructionAddress
+  stopIf (not (isAssisted (operation c))) NotAssisted
+  stopIf (wrongMode (c .guest)) WrongMode
   instruction c
 
 -- ---- the answer
 
--- the answer (the ending with all that it carries, the count of references, the record handed back), the list of references, and the machine afterwards
+-- the answer (the ending with all that it carries, the count of references, the record handed back), the list of
+-- references, and the machine afterwards
 pub record Result : Type 0 where
   pub answer : Answer
   pub references : List Reference
@@ -91,7 +90,7 @@ conclude m g rs (ended e) = answered e g rs m
 conclude m g rs (gave c) = answered Completed (c .guest) (rs ++ map entry (c .writes)) (performAll m (c .writes))
 
 abbrev pub reading : Machine → Call → Run Completion
-reading m c = run (sizesFit (length (m .storage)) (length (m .keys)) >> program c) m
+reading m c = run (program (length (m .storage)) (length (m .keys)) c) m
 
 abbrev pub attempt : Machine → Call → Result
 attempt m c = conclude m (c .guest) (reading m c .references) (reading m c .outcome)

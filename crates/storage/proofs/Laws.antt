@@ -236,3 +236,8 @@ finishes {m} {m′} {t} {u} {n} g x y s ks h a f =
     ∙ ap (deferred n) f
     ∙ sym (finish-more n g (seen u m′))
     ∙ ap (finish g) (sym (h .so))
+
+-- and one that goes on before any reference
+pub continues : {m m′ : Machine} {t u : Steps Completion} (g : Guest) (x : Answer) (s ks : List ℕ)
+    → Runs m t 0 m′ u → finished x s ks ≡ finish g (seen u m′) → finished x s ks ≡ finish g (seen t m)
+continues {m} {m′} {t} {u} g x s ks h f = f ∙ ap (finish g) (more-zero u m′ ∙ sym (h .so))

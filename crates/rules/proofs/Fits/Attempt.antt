@@ -2,10 +2,11 @@
 use Prim.Native.Nat.{ℕ, _≤_}
 use native.Mathlib.Omega.{arith}
 use mathlib.Core.Path.{_≡_, refl, sym, subst}
-use mathlib.Core.Bool.{true, false}
+use mathlib.Core.Bool.{Bool, true, false, not, _||_, true≢false}
+use mathlib.Core.Logic.{_⊎_, inl, inr, ⊎-elim}
 use lib.ListN.{length}
 use lib.Dec.{eqb}
-use borrow.Author.Tests.{eqb-true}
+use borrow.Author.Tests.{eqb-true, not-true, not-false}
 use Rattle.rules.specs.Machine.{Machine}
 use Rattle.rules.specs.Endings.{WrongMode, NotAssisted}
 use Rattle.rules.specs.Steps.{Steps, _>>=_, _>>_, stopIf}
@@ -14,7 +15,7 @@ use Rattle.rules.specs.SetSystemMask.{setSystemMask}
 use Rattle.rules.specs.StoreControl.{storeControl}
 use Rattle.rules.specs.StoreThenMask.{And, Or, storeThen}
 use Rattle.rules.specs.SetStorageKey.{setStorageKey}
-use Rattle.rules.specs.Attempt.{sizesFit, assisted, instruction, program, reading}
+use Rattle.rules.specs.Attempt.{isAssisted, instruction, program, reading}
 use Rattle.rules.proofs.Within.{Came, run-came, within-more}
 use Rattle.rules.proofs.Fits.{Stops, stops, Completes, completes-more, Fits}
 use Rattle.rules.proofs.Fits.SetSystemMask.{setSystemMask-fits}
@@ -22,51 +23,79 @@ use Rattle.rules.proofs.Fits.StoreControl.{storeControl-fits}
 use Rattle.rules.proofs.Fits.StoreThenMask.{storeThen-fits, maskTable}
 use Rattle.rules.proofs.Fits.SetStorageKey.{setStorageKey-fits}
 
-assisted-fits : (op : ℕ) (c : Call) (i : Call → Steps Completion) (n : ℕ) → n ≤ 85 → Stops op WrongMode
-    → Fits op c (i c) n → Fits op c (assisted i c) 85
-unfolding _>>=_ stopIf assisted
-assisted-fits op c i n l w h = (
-  λ t. w,
-  λ t. within-more (Stops op) (Completes op c) (completes-more op c) (i c) n 85 l h,
-)
+-- ---- the five
 
-none-of-five : (op : ℕ) → eqb op 0x80 ≡ false → eqb op 0xb6 ≡ false → eqb op 0xac ≡ false → eqb op 0xad ≡ false
-    → eqb op 0x08 ≡ false → Stops op NotAssisted
-none-of-five op a b c d e = stops (rw (a, b, c, d, e) refl) refl refl
+either-true : (a b : Bool) → (a || b) ≡ true → (a ≡ true) ⊎ (b ≡ true)
+either-true true b h = inl refl
+either-true false b h = inr h
 
--- at an operation code that is decided
-decided : (c : Call) (op : ℕ) (i : Call → Steps Completion) (n : ℕ) → n ≤ 85 → Stops op WrongMode
-    → Fits op c (i c) n → eqb (operation c) op ≡ true → Fits (operation c) c (assisted i c) 85
-decided c op i n l w h e =
-    subst (λ o. Fits o c (assisted i c) 85) (sym (eqb-true (operation c) op e)) (assisted-fits op c i n l w h)
+neither : (a b : Bool) → (a || b) ≡ false → (a ≡ false) × (b ≡ false)
+neither true b h = absurd (true≢false h)
+neither false b h = (refl, h)
 
-instruction-fits : (c : Call) → Fits (operation c) c (instruction c) 85
-unfolding instruction
-instruction-fits c = (
-  decided c 0x80 setSystemMask 13 (omega arith) (stops refl refl refl) (setSystemMask-fits c),
-  λ e1. (
-    decided c 0xb6 storeControl 85 (omega arith) (stops refl refl refl) (storeControl-fits c),
-    λ e2. (
-      decided c 0xac (storeThen And) 11 (omega arith) (stops refl refl refl)
-          (storeThen-fits 0xac (maskTable refl refl) And c),
-      λ e3. (
-        decided c 0xad (storeThen Or) 11 (omega arith) (stops refl refl refl)
-            (storeThen-fits 0xad (maskTable refl refl) Or c),
-        λ e4. (
-          decided c 0x08 setStorageKey 8 (omega arith) (stops refl refl refl) (setStorageKey-fits c),
-          λ e5. none-of-five (operation c) e1 e2 e3 e4 e5,
+-- what has P at each of the five has it at an assisted operation code
+each : (P : ℕ → Type 0) → P 0x80 → P 0xb6 → P 0xac → P 0xad → P 0x08 → (op : ℕ) → isAssisted op ≡ true → P op
+each P a b c d e op h =
+    let at : (code : ℕ) → P code → eqb op code ≡ true → P op = λ code p t. subst P (sym (eqb-true op code t)) p in
+    ⊎-elim (λ h. ⊎-elim (λ h. ⊎-elim (λ h. ⊎-elim (at 0x80 a) (at 0xb6 b) (either-true _ _ h)) (at 0xac c)
+    (either-true _ _ h)) (at 0xad d) (either-true _ _ h)) (at 0x08 e) (either-true _ _ h)
+
+none-of-five : (op : ℕ) → isAssisted op ≡ false → Stops op NotAssisted
+none-of-five op h =
+    let e = neither _ (eqb op 0x08) h in
+    let d = neither _ (eqb op 0xad) (e .0) in
+    let c = neither _ (eqb op 0xac) (d .0) in
+    let b = neither (eqb op 0x80) (eqb op 0xb6) (c .0) in
+    stops (rw (b .0, b .1, c .1, d .1, e .1) refl) refl refl
+
+wrong-mode : (op : ℕ) → isAssisted op ≡ true → Stops op WrongMode
+wrong-mode =
+    each (λ op. Stops op WrongMode) (stops refl refl refl) (stops refl refl refl) (stops refl refl refl)
+    (stops refl refl refl) (stops refl refl refl)
+
+-- ---- the instruction at an operation code that is decided
+
+module _ (c : Call) (h : isAssisted (operation c) ≡ true) where
+  at : (op : ℕ) (p : Steps Completion) (n : ℕ) → n ≤ 85 → Fits op c p n → eqb (operation c) op ≡ true
+      → Fits (operation c) c p 85
+  at op p n l f e =
+      subst (λ o. Fits o c p 85) (sym (eqb-true (operation c) op e))
+      (within-more (Stops op) (Completes op c) (completes-more op c) p n 85 l f)
+
+  instruction-fits : Fits (operation c) c (instruction c) 85
+  unfolding instruction
+  instruction-fits = (
+    at 0x80 (setSystemMask c) 13 (omega arith) (setSystemMask-fits c),
+    λ e1. (
+      at 0xb6 (storeControl c) 85 (omega arith) (storeControl-fits c),
+      λ e2. (
+        at 0xac (storeThen And c) 11 (omega arith) (storeThen-fits 0xac (maskTable refl refl) And c),
+        λ e3. (
+          at 0xad (storeThen Or c) 11 (omega arith) (storeThen-fits 0xad (maskTable refl refl) Or c),
+          λ e4. at 0x08 (setStorageKey c) 8 (omega arith) (setStorageKey-fits c) (simp (e1, e2, e3, e4) at h),
+        ),
+      ),
+    ),
+  )
+
+-- whatever the sizes
+pub attempt-fits : (bytes keys : ℕ) (c : Call) → Fits (operation c) c (program bytes keys c) 85
+unfolding _>>=_ stopIf program
+attempt-fits bytes keys c = (
+  λ t. stops refl refl refl,
+  λ t. (
+    λ t. stops refl refl refl,
+    λ t. (
+      λ t. stops refl refl refl,
+      λ t. (
+        λ t. none-of-five (operation c) (not-true _ t),
+        λ t. (
+          λ w. wrong-mode (operation c) (not-false _ t),
+          λ w. instruction-fits c (not-false _ t),
         ),
       ),
     ),
   ),
-)
-
--- whatever the sizes
-pub attempt-fits : (bytes keys : ℕ) (c : Call) → Fits (operation c) c (sizesFit bytes keys >> program c) 85
-unfolding _>>=_ stopIf sizesFit program
-attempt-fits bytes keys c = (
-  λ t. stops refl refl refl,
-  λ t. (λ t. stops refl refl refl, λ t. (λ t. stops refl refl refl, λ t. instruction-fits c)),
 )
 
 pub reading-came : (m : Machine) (c : Call)
@@ -76,4 +105,4 @@ reading-came m c =
     let op = operation c in
     let bytes = length (m .storage) in
     let keys = length (m .keys) in
-    run-came (Stops op) (Completes op c) (sizesFit bytes keys >> program c) 85 m (attempt-fits bytes keys c)
+    run-came (Stops op) (Completes op c) (program bytes keys c) 85 m (attempt-fits bytes keys c)

@@ -7,10 +7,9 @@ use lib.ListN.{length, getD}
 use Rattle.rules.specs.Machine.{Machine, addresses, Write, store, setKey}
 use Rattle.rules.specs.References.{seenAs, Reference, fetched, consulted, wrote, keySet, bytesOf, entry}
 use Rattle.rules.specs.Guest.{Guest}
-use Rattle.rules.specs.Steps.{_>>_}
 use Rattle.rules.specs.Run.{Outcome, ended, gave, run}
 use Rattle.rules.specs.Call.{Call, Completion}
-use Rattle.rules.specs.Attempt.{sizesFit, program, conclude, reading, attempt}
+use Rattle.rules.specs.Attempt.{program, conclude, reading, attempt}
 use Rattle.rules.specs.Calls.{answers, left, references}
 use Rattle.rules.specs.Theorems.Isolation.{
   All,
@@ -179,10 +178,10 @@ module _ (p q : Part) (a b c : Machine) (t : Together p q a b c) where
   module _ (x : Call) (h : All (Keeps p q) (attempt a x .references)) where
     same-reading : reading c x ≡ reading a x
     same-reading =
-        ap (λ l. run (sizesFit l (length (c .keys)) >> program x) c) (t .bytes .first)
-        ∙ ap (λ l. run (sizesFit (length (a .storage)) l >> program x) c) (t .keys .first)
+        ap (λ l. run (program l (length (c .keys)) x) c) (t .bytes .first)
+        ∙ ap (λ l. run (program (length (a .storage)) l x) c) (t .keys .first)
         ∙ local a c (record { storage = t .bytes .first; keys = t .keys .first })
-        (sizesFit (length (a .storage)) (length (a .keys)) >> program x)
+        (program (length (a .storage)) (length (a .keys)) x)
         (all-map (Keeps p q) (Agree a c) agrees (reading a x .references)
         (reads (Keeps p q) (x .guest) (reading a x .references) (reading a x .outcome) h))
 

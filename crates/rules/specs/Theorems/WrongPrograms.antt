@@ -9,7 +9,16 @@ use lib.Dec.{eqb}
 use Rattle.rules.specs.Machine.{Machine, _⊕_, store, perform}
 use Rattle.rules.specs.References.{Reference, wrote}
 use Rattle.rules.specs.Guest.{effective, advance}
-use Rattle.rules.specs.Endings.{Ending, Completed, WrongMode, OddInstructionAddress, refuse}
+use Rattle.rules.specs.Endings.{
+  Ending,
+  Completed,
+  WrongMode,
+  WrongStorageSize,
+  WrongKeyCount,
+  OddInstructionAddress,
+  NotAssisted,
+  refuse,
+}
 use Rattle.rules.specs.Steps.{Steps, done, branch, _>>=_, _>>_, stopIf, endingAs}
 use Rattle.rules.specs.Run.{ended, gave, either, run}
 use Rattle.rules.specs.Access.{storeTest, secondHalfword}
@@ -20,10 +29,11 @@ use Rattle.rules.specs.SetSystemMask.{maskOperand, maskNeedsExpanded, ma
 use Rattle.rules.specs.StoreControl.{assistsControl, registerCount, virtualRegisters}
 use Rattle.rules.specs.StoreThenMask.{And, newMask, needsExpanded}
 use Rattle.rules.specs.Attempt.{
-  sizesFit,
+  wrongStorage,
+  wrongKeys,
   oddAddress,
+  isAssisted,
   wrongMode,
-  assisted,
   instruction,
   Result,
   answered,
@@ -41,13 +51,21 @@ pub record Differs (wrong : Program) : Type 0 where
   pub call : Call
   pub differ : seen (wrong machine call) ≡ seen (attempt machine call) → ⊥
 
+-- the tests before the instruction
+unfoldable pub admission : Machine → Call → Steps (Unit {0})
+admission m c = do
+  stopIf (wrongStorage (length (m .storage))) WrongStorageSize
+  stopIf (wrongKeys (length (m .storage)) (length (m .keys))) WrongKeyCount
+  stopIf (oddAddress (c .guest)) OddInstructionAddress
+  stopIf (not (isAssisted (operation c))) NotAssisted
+  stopIf (wrongMode (c .guest)) WrongMode
+
 -- the attempt, with another reading program for one operation code
 abbrev pub attemptWith : (op : ℕ) → (Call → Steps Completion) → Program
 attemptWith op wrong m c =
     let r = run (do
-      sizesFit (length (m .storage)) (length (m .keys))
-      stopIf (oddAddress (c .guest)) OddInstructionAddress
-      branch (eqb (operation c) op) (assisted wrong c) (instruction c)) m in
+      admission m c
+      branch (eqb (operation c) op) (wrong c) (instruction c)) m in
     conclude m (c .guest) (r .references) (r .outcome)
 
 -- ---- the wrong turns
@@ -82,9 +100,7 @@ pub record Operand : Type 0 where
 unfoldable pub registersToStore : Machine → Call → Steps Operand
 registersToStore m c = do
   let g = c .guest
-  sizesFit (length (m .storage)) (length (m .keys))
-  stopIf (oddAddress g) OddInstructionAddress
-  stopIf (wrongMode g) WrongMode
+  admission m c
   stopIf (not (assistsControl g)) refuse
   creg ← miccreg 2 g
   second ← secondHalfword g

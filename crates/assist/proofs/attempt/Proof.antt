@@ -1,0 +1,33 @@
+use Prim.Native.Nat.{_≤_}
+use mathlib.Core.Path.{_≡_, refl, sym, ap, _∙_, subst}
+use Rattle.rules.specs.Endings.{numbers}
+use Rattle.rules.proofs.Theorems.Count.{count-bounded}
+use Rattle.storage.specs.Answers.{machine}
+use Rattle.rules.specs.declared.call.Call.{Call}
+use Rattle.assist.specs.Attempted.{attempted}
+use Rattle.assist.proofs.Concluded.{attempts}
+use borrow.Author.Needs.{needs}
+use Rattle.assist.proofs.attempt.Statement.{statement}
+use Rattle.assist.proofs.attempt.Tie as tie
+
+returns : tie.Need-returns
+unfolding attempted
+returns c =
+    let a = c .before .before .before .before .before .before .before .before .before .args in
+    let m = machine (a .storage .now) (a .keys .now) in
+    let call : Call = record { guest = a .guest; first = a .first; installed = a .installed } in
+    let e = c .before .before .before .before .program .ensures ∙ attempts m call in
+    let answer = ap (λ f. f .answer) e in
+    let counted = count-bounded m call in (
+      answer,
+      (
+        ap (λ x. numbers (x .ending)) answer,
+        (
+          (ap (λ x. x .count) answer ∙ counted .length, subst (λ n. n ≤ 85) (sym (ap (λ x. x .count) answer)) (counted .atMost)),
+          (ap (λ f. f .after .storage) e, ap (λ f. f .after .keys) e),
+        ),
+      ),
+    )
+
+pub attempt-spec : {M : Type 1} → statement M
+attempt-spec = tie.close (tie.spec (λ c κs. search needs) (λ c. search needs) (λ c. search needs) returns)

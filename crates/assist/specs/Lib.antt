@@ -1,0 +1,2 @@
+-- What an attempt promises.
+pub mod Attempted

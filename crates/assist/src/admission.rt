@@ -1,0 +1,57 @@
+// The tests before the instruction: endings 10, 11, 12, 13 and 9, in that order.
+ghost use mathlib.Core.Path.{_≡_};
+ghost use Rattle.rules.specs.Attempt.{wrongStorage, wrongKeys, oddAddress, isAssisted, wrongMode};
+ghost use Rattle.storage.specs.Answers.{answer};
+use rules::Answer;
+use rules::Ending;
+use rules::Guest;
+
+// 10: not a multiple of 2,048, or outside 2,048 to 16,777,216.
+pub(crate) fn is_wrong_storage(bytes: usize) -> bool
+    ensures { λ r. ⌜ r ≡ wrongStorage bytes ⌝ }
+{
+    (bytes % 2048 != 0) | (bytes < 2048) | (16777216 < bytes)
+}
+
+// 11: not one key for each 2,048 bytes.
+pub(crate) fn is_wrong_keys(bytes: usize, keys: usize) -> bool
+    ensures { λ r. ⌜ r ≡ wrongKeys bytes keys ⌝ }
+{
+    keys != bytes / 2048
+}
+
+// 12: the instruction address is odd.
+pub(crate) fn is_odd(guest: Guest) -> bool
+    ensures { λ r. ⌜ r ≡ oddAddress guest ⌝ }
+{
+    guest.instruction_address() % 2 != 0
+}
+
+// 13, where it is not: one of the five.
+pub(crate) fn is_assisted(operation: u32) -> bool
+    ensures { λ r. ⌜ r ≡ isAssisted operation ⌝ }
+{
+    (operation == 128)
+        | (operation == 182)
+        | (operation == 172)
+        | (operation == 173)
+        | (operation == 8)
+}
+
+// 9: real PSW bit 12 or bit 15 is zero.
+pub(crate) fn is_wrong_mode(guest: Guest) -> bool
+    ensures { λ r. ⌜ r ≡ wrongMode guest ⌝ }
+{
+    !guest.extended_control() | !guest.problem_state()
+}
+
+// A refusal before any reference; the record is handed back as it was.
+pub(crate) fn refusal(ending: Ending, guest: Guest) -> Answer
+    ensures { λ r. ⌜ r ≡ answer ending 0 guest ⌝ }
+{
+    Answer {
+        ending,
+        count: 0,
+        guest,
+    }
+}

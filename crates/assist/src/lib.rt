@@ -1,0 +1,90 @@
+// One attempt of the virtual-machine assist: document 01, "The numbered endings".
+ghost use Prim.Native.Nat.{_≤_};
+ghost use mathlib.Core.Path.{_≡_};
+ghost use lib.ListN.{length};
+ghost use Rattle.rules.specs.Endings.{numbers};
+ghost use Rattle.rules.specs.Attempt.{instruction, program};
+ghost use Rattle.storage.specs.Answers.{machine, seen, finished, finish};
+ghost use Rattle.assist.specs.Attempted.{attempted};
+use crate::admission::is_assisted;
+use crate::admission::is_odd;
+use crate::admission::is_wrong_keys;
+use crate::admission::is_wrong_mode;
+use crate::admission::is_wrong_storage;
+use crate::admission::refusal;
+use rules::Answer;
+use rules::Call;
+use rules::Ending;
+use rules::Guest;
+use rules::MaskChange;
+
+mod admission;
+
+// The instruction, by its operation code.
+fn instruction(storage: &mut [u8], keys: &mut [u8], call: Call) -> Answer
+    ensures { λ r. ⌜ finished r (now (storage .exit)) (now (keys .exit)) ≡ finish (call .guest) (seen (instruction call) (machine (now (storage .entry)) (now (keys .entry)))) ⌝ }
+{
+    let operation = call.operation();
+    if operation == 128 {
+        return masks::set_system_mask(storage, keys, call);
+    }
+    if operation == 182 {
+        return control::store_control(storage, keys, call);
+    }
+    if operation == 172 {
+        return masks::store_then(storage, keys, MaskChange::And, call);
+    }
+    if operation == 173 {
+        return masks::store_then(storage, keys, MaskChange::Or, call);
+    }
+    storage_key::set_storage_key(storage, keys, call)
+}
+
+// The same after the tests 10, 11, 12, 13 and 9.
+fn program(storage: &mut [u8], keys: &mut [u8], call: Call) -> Answer
+    ensures { λ r. ⌜ finished r (now (storage .exit)) (now (keys .exit)) ≡ finish (call .guest) (seen (program (length (now (storage .entry))) (length (now (keys .entry))) call) (machine (now (storage .entry)) (now (keys .entry)))) ⌝ }
+{
+    let guest = call.guest;
+    if is_wrong_storage(storage.len()) {
+        return refusal(Ending::WrongStorageSize, guest);
+    }
+    if is_wrong_keys(storage.len(), keys.len()) {
+        return refusal(Ending::WrongKeyCount, guest);
+    }
+    if is_odd(guest) {
+        return refusal(Ending::OddInstructionAddress, guest);
+    }
+    if !is_assisted(call.operation()) {
+        return refusal(Ending::NotAssisted, guest);
+    }
+    if is_wrong_mode(guest) {
+        return refusal(Ending::WrongMode, guest);
+    }
+    instruction(storage, keys, call)
+}
+
+// One attempt. The storage and keys of the caller are changed in place, and only on completion; the record is handed
+// back. Every call is answered, whatever is lent, and costs no more in a larger storage.
+pub fn attempt(
+    storage: &mut [u8],
+    keys: &mut [u8],
+    guest: Guest,
+    first: u16,
+    installed: bool,
+) -> Answer
+    ensures answer { λ r. ⌜ r ≡ attempted (now (storage .entry)) (now (keys .entry)) guest first installed .answer ⌝ }
+    ensures numbers { λ r. ⌜ numbers (r .ending) ≡ numbers (attempted (now (storage .entry)) (now (keys .entry)) guest first installed .answer .ending) ⌝ }
+    ensures count { λ r. ⌜ (r .count ≡ length (attempted (now (storage .entry)) (now (keys .entry)) guest first installed .references)) × (r .count ≤ 85) ⌝ }
+    ensures storage { λ r. ⌜ now (storage .exit) ≡ attempted (now (storage .entry)) (now (keys .entry)) guest first installed .after .storage ⌝ }
+    ensures keys { λ r. ⌜ now (keys .exit) ≡ attempted (now (storage .entry)) (now (keys .entry)) guest first installed .after .keys ⌝ }
+{
+    program(
+        storage,
+        keys,
+        Call {
+            guest,
+            first,
+            installed,
+        },
+    )
+}

@@ -1,6 +1,7 @@
 // The control program's fields: real, with key zero, each with the step that wants it, which ending 3 carries.
 ghost use mathlib.Core.Path.{_≡_};
-ghost use Rattle.rules.specs.ControlFields.{controlWord, controlHalfword, micrseg, miccreg, micvpsw, addressIn, pending};
+ghost use Rattle.rules.specs.ControlFields.{controlWord, controlHalfword, micrseg};
+ghost use Rattle.rules.specs.ControlFields.{miccreg, micvpsw, addressIn, pending};
 ghost use Rattle.rules.specs.StoreControl.{assistsControl};
 ghost use Rattle.storage.specs.Answers.{machine, told, seen};
 use rules::Ending;
@@ -9,13 +10,19 @@ use storage::Stepped;
 use storage::Width;
 
 pub fn control_word(storage: &[u8], keys: &mut [u8], step: u32, at: u32) -> Stepped
-    ensures { λ r. ⌜ told r (now (storage .entry)) (now (keys .exit)) ≡ seen (controlWord step at) (machine (now (storage .entry)) (now (keys .entry))) ⌝ }
+    ensures { λ r. ⌜
+        told r (now (storage .entry)) (now (keys .exit))
+        ≡ seen (controlWord step at) (machine (now (storage .entry)) (now (keys .entry)))
+        ⌝ }
 {
     storage::fetch(storage, keys, Width::Word, at, Ending::FieldMissing(step))
 }
 
 pub fn control_halfword(storage: &[u8], keys: &mut [u8], step: u32, at: u32) -> Stepped
-    ensures { λ r. ⌜ told r (now (storage .entry)) (now (keys .exit)) ≡ seen (controlHalfword step at) (machine (now (storage .entry)) (now (keys .entry))) ⌝ }
+    ensures { λ r. ⌜
+        told r (now (storage .entry)) (now (keys .exit))
+        ≡ seen (controlHalfword step at) (machine (now (storage .entry)) (now (keys .entry)))
+        ⌝ }
 {
     storage::fetch(
         storage,
@@ -28,19 +35,28 @@ pub fn control_halfword(storage: &[u8], keys: &mut [u8], step: u32, at: u32) -> 
 
 // MICBLOK: MICRSEG at offset 0, MICCREG at 4, MICVPSW at 8.
 pub fn micrseg(storage: &[u8], keys: &mut [u8], step: u32, guest: Guest) -> Stepped
-    ensures { λ r. ⌜ told r (now (storage .entry)) (now (keys .exit)) ≡ seen (micrseg step guest) (machine (now (storage .entry)) (now (keys .entry))) ⌝ }
+    ensures { λ r. ⌜
+        told r (now (storage .entry)) (now (keys .exit))
+        ≡ seen (micrseg step guest) (machine (now (storage .entry)) (now (keys .entry)))
+        ⌝ }
 {
     control_word(storage, keys, step, guest.micblok())
 }
 
 pub fn miccreg(storage: &[u8], keys: &mut [u8], step: u32, guest: Guest) -> Stepped
-    ensures { λ r. ⌜ told r (now (storage .entry)) (now (keys .exit)) ≡ seen (miccreg step guest) (machine (now (storage .entry)) (now (keys .entry))) ⌝ }
+    ensures { λ r. ⌜
+        told r (now (storage .entry)) (now (keys .exit))
+        ≡ seen (miccreg step guest) (machine (now (storage .entry)) (now (keys .entry)))
+        ⌝ }
 {
     control_word(storage, keys, step, rules::sum(guest.micblok(), 4))
 }
 
 pub fn micvpsw(storage: &[u8], keys: &mut [u8], step: u32, guest: Guest) -> Stepped
-    ensures { λ r. ⌜ told r (now (storage .entry)) (now (keys .exit)) ≡ seen (micvpsw step guest) (machine (now (storage .entry)) (now (keys .entry))) ⌝ }
+    ensures { λ r. ⌜
+        told r (now (storage .entry)) (now (keys .exit))
+        ≡ seen (micvpsw step guest) (machine (now (storage .entry)) (now (keys .entry)))
+        ⌝ }
 {
     control_word(storage, keys, step, rules::sum(guest.micblok(), 8))
 }

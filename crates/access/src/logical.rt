@@ -13,7 +13,10 @@ use storage::Width;
 
 // With DAT off a logical address is real.
 fn real_of(storage: &[u8], keys: &mut [u8], guest: Guest, at: u32) -> Stepped
-    ensures { λ r. ⌜ told r (now (storage .entry)) (now (keys .exit)) ≡ seen (realOf guest at) (machine (now (storage .entry)) (now (keys .entry))) ⌝ }
+    ensures { λ r. ⌜
+        told r (now (storage .entry)) (now (keys .exit))
+        ≡ seen (realOf guest at) (machine (now (storage .entry)) (now (keys .entry)))
+        ⌝ }
 {
     if guest.dat_on() {
         return translate(storage, keys, guest.cr0, guest.cr1, at);
@@ -33,7 +36,10 @@ fn passes(store: bool, held: u32, key: u32) -> bool
 }
 
 fn access(storage: &[u8], keys: &mut [u8], guest: Guest, store: bool, at: u32) -> Stepped
-    ensures { λ r. ⌜ told r (now (storage .entry)) (now (keys .exit)) ≡ seen (access (passesFor store) guest at) (machine (now (storage .entry)) (now (keys .entry))) ⌝ }
+    ensures { λ r. ⌜
+        told r (now (storage .entry)) (now (keys .exit))
+        ≡ seen (access (passesFor store) guest at) (machine (now (storage .entry)) (now (keys .entry)))
+        ⌝ }
 {
     let resolved = real_of(storage, keys, guest, at);
     let Stepped::Value(real, count) = resolved else {
@@ -52,7 +58,10 @@ fn access(storage: &[u8], keys: &mut [u8], guest: Guest, store: bool, at: u32) -
 
 // The real address of an operand that is stored later.
 pub fn store_test(storage: &[u8], keys: &mut [u8], guest: Guest, at: u32) -> Stepped
-    ensures { λ r. ⌜ told r (now (storage .entry)) (now (keys .exit)) ≡ seen (storeTest guest at) (machine (now (storage .entry)) (now (keys .entry))) ⌝ }
+    ensures { λ r. ⌜
+        told r (now (storage .entry)) (now (keys .exit))
+        ≡ seen (storeTest guest at) (machine (now (storage .entry)) (now (keys .entry)))
+        ⌝ }
 {
     access(storage, keys, guest, true, at)
 }
@@ -64,7 +73,10 @@ pub fn logical_fetch(
     width: Width,
     at: u32,
 ) -> Stepped
-    ensures { λ r. ⌜ told r (now (storage .entry)) (now (keys .exit)) ≡ seen (logicalFetch guest at (bytesIn width)) (machine (now (storage .entry)) (now (keys .entry))) ⌝ }
+    ensures { λ r. ⌜
+        told r (now (storage .entry)) (now (keys .exit))
+        ≡ seen (logicalFetch guest at (bytesIn width)) (machine (now (storage .entry)) (now (keys .entry)))
+        ⌝ }
 {
     let tested = access(storage, keys, guest, false, at);
     let Stepped::Value(real, count) = tested else {
@@ -76,7 +88,10 @@ pub fn logical_fetch(
 
 // The second halfword of the instruction.
 pub fn second_halfword(storage: &[u8], keys: &mut [u8], guest: Guest) -> Stepped
-    ensures { λ r. ⌜ told r (now (storage .entry)) (now (keys .exit)) ≡ seen (secondHalfword guest) (machine (now (storage .entry)) (now (keys .entry))) ⌝ }
+    ensures { λ r. ⌜
+        told r (now (storage .entry)) (now (keys .exit))
+        ≡ seen (secondHalfword guest) (machine (now (storage .entry)) (now (keys .entry)))
+        ⌝ }
 {
     let at = rules::sum(guest.instruction_address(), 2);
     logical_fetch(storage, keys, guest, Width::Halfword, at)

@@ -1,7 +1,8 @@
 // Page tables: document 01, "Addresses and translation", steps 5 and 6.
 ghost use Prim.Native.Nat.{_≤_};
 ghost use mathlib.Core.Path.{_≡_};
-ghost use Rattle.rules.specs.Translation.{pageTable, pageIndex, pageEntryAt, invalid, malformed, realAddress, pageAddress, pageException};
+ghost use Rattle.rules.specs.Translation.{pageTable, pageIndex, pageEntryAt, invalid};
+ghost use Rattle.rules.specs.Translation.{malformed, realAddress, pageAddress, pageException};
 ghost use Rattle.storage.specs.Answers.{machine, told, seen};
 use rules::Ending;
 use rules::Exception;
@@ -55,7 +56,10 @@ pub(crate) fn page_address(
     segment: u32,
     at: u32,
 ) -> Stepped
-    ensures { λ r. ⌜ told r (now (storage .entry)) (now (keys .exit)) ≡ seen (pageAddress (pageException at) format segment at) (machine (now (storage .entry)) (now (keys .entry))) ⌝ }
+    ensures { λ r. ⌜
+        told r (now (storage .entry)) (now (keys .exit))
+        ≡ seen (pageAddress (pageException at) format segment at) (machine (now (storage .entry)) (now (keys .entry)))
+        ⌝ }
 {
     let place = page_entry_at(format, segment, at);
     let missing = Ending::Interruption(Exception::Addressing);

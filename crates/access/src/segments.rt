@@ -39,7 +39,11 @@ fn is_beyond_pages(format: Format, entry: u32, at: u32) -> bool
 }
 
 pub fn segment_entry(storage: &[u8], keys: &mut [u8], format: Format, table: u32, at: u32) -> Walked
-    ensures { λ r. ⌜ ((on : SegmentFault → Ending) → told (endedBy on r) (now (storage .entry)) (now (keys .exit)) ≡ seen (segmentEntry on format table at) (machine (now (storage .entry)) (now (keys .entry)))) ⌝ }
+    ensures { λ r. ⌜
+        ((on : SegmentFault → Ending) →
+        told (endedBy on r) (now (storage .entry)) (now (keys .exit))
+        ≡ seen (segmentEntry on format table at) (machine (now (storage .entry)) (now (keys .entry))))
+        ⌝ }
 {
     if is_beyond_segments(format, table, at) {
         return Walked::Fault(SegmentFault::SegmentTableLength, 0);

@@ -70,7 +70,10 @@ fn excepted(walked: Walked, at: u32) -> Stepped
 }
 
 pub(crate) fn translate(storage: &[u8], keys: &mut [u8], cr0: u32, cr1: u32, at: u32) -> Stepped
-    ensures { λ r. ⌜ told r (now (storage .entry)) (now (keys .exit)) ≡ seen (translate cr0 cr1 at) (machine (now (storage .entry)) (now (keys .entry))) ⌝ }
+    ensures { λ r. ⌜
+        told r (now (storage .entry)) (now (keys .exit))
+        ≡ seen (translate cr0 cr1 at) (machine (now (storage .entry)) (now (keys .entry)))
+        ⌝ }
 {
     let Formatted::Of(format) = format_of(cr0) else {
         return Stepped::Stopped(Ending::Interruption(Exception::TranslationSpecification), 0);

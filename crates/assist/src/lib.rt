@@ -22,7 +22,10 @@ mod admission;
 
 // The instruction, by its operation code.
 fn instruction(storage: &mut [u8], keys: &mut [u8], call: Call) -> Answer
-    ensures { λ r. ⌜ finished r (now (storage .exit)) (now (keys .exit)) ≡ finish (call .guest) (seen (instruction call) (machine (now (storage .entry)) (now (keys .entry)))) ⌝ }
+    ensures { λ r. ⌜
+        finished r (now (storage .exit)) (now (keys .exit))
+        ≡ finish (call .guest) (seen (instruction call) (machine (now (storage .entry)) (now (keys .entry))))
+        ⌝ }
 {
     let operation = call.operation();
     if operation == 128 {
@@ -42,7 +45,12 @@ fn instruction(storage: &mut [u8], keys: &mut [u8], call: Call) -> Answer
 
 // The same after the tests 10, 11, 12, 13 and 9.
 fn program(storage: &mut [u8], keys: &mut [u8], call: Call) -> Answer
-    ensures { λ r. ⌜ finished r (now (storage .exit)) (now (keys .exit)) ≡ finish (call .guest) (seen (program (length (now (storage .entry))) (length (now (keys .entry))) call) (machine (now (storage .entry)) (now (keys .entry)))) ⌝ }
+    ensures { λ r. ⌜
+        finished r (now (storage .exit)) (now (keys .exit))
+        ≡ finish (call .guest)
+        (seen (program (length (now (storage .entry))) (length (now (keys .entry))) call)
+        (machine (now (storage .entry)) (now (keys .entry))))
+        ⌝ }
 {
     let guest = call.guest;
     if is_wrong_storage(storage.len()) {
@@ -73,10 +81,23 @@ pub fn attempt(
     installed: bool,
 ) -> Answer
     ensures answer { λ r. ⌜ r ≡ attempted (now (storage .entry)) (now (keys .entry)) guest first installed .answer ⌝ }
-    ensures numbers { λ r. ⌜ numbers (r .ending) ≡ numbers (attempted (now (storage .entry)) (now (keys .entry)) guest first installed .answer .ending) ⌝ }
-    ensures count { λ r. ⌜ (r .count ≡ length (attempted (now (storage .entry)) (now (keys .entry)) guest first installed .references)) × (r .count ≤ 85) ⌝ }
-    ensures storage { λ r. ⌜ now (storage .exit) ≡ attempted (now (storage .entry)) (now (keys .entry)) guest first installed .after .storage ⌝ }
-    ensures keys { λ r. ⌜ now (keys .exit) ≡ attempted (now (storage .entry)) (now (keys .entry)) guest first installed .after .keys ⌝ }
+    ensures numbers { λ r. ⌜
+        numbers (r .ending)
+        ≡ numbers (attempted (now (storage .entry)) (now (keys .entry)) guest first installed .answer .ending)
+        ⌝ }
+    ensures count { λ r. ⌜
+        r .count
+        ≡ length (attempted (now (storage .entry)) (now (keys .entry)) guest first installed .references)
+        ⌝ }
+    ensures bound { λ r. ⌜ r .count ≤ 85 ⌝ }
+    ensures storage { λ r. ⌜
+        now (storage .exit)
+        ≡ attempted (now (storage .entry)) (now (keys .entry)) guest first installed .after .storage
+        ⌝ }
+    ensures keys { λ r. ⌜
+        now (keys .exit)
+        ≡ attempted (now (storage .entry)) (now (keys .entry)) guest first installed .after .keys
+        ⌝ }
 {
     program(
         storage,

@@ -23,7 +23,11 @@ pub(crate) fn virtual_registers(
     n: u32,
 ) -> Gathered
     requires { ⌜ (n ≤ 16) × (first < 16) ⌝ }
-    ensures { λ r. ⌜ (gathered n r (now (storage .entry)) (now (keys .exit)) ≡ seen (virtualRegisters ecblok first n) (machine (now (storage .entry)) (now (keys .entry)))) × (length (r .words) ≡ 16) ⌝ }
+    ensures { λ r. ⌜
+        (gathered n r (now (storage .entry)) (now (keys .exit))
+        ≡ seen (virtualRegisters ecblok first n)
+        (machine (now (storage .entry)) (now (keys .entry)))) × (length (r .words) ≡ 16)
+        ⌝ }
 {
     let mut words = [0u32; 16];
     let mut count: u32 = 0;
@@ -59,7 +63,11 @@ pub(crate) fn operand_words(
     n: u32,
 ) -> Gathered
     requires { ⌜ n ≤ 16 ⌝ }
-    ensures { λ r. ⌜ (gathered n r (now (storage .entry)) (now (keys .exit)) ≡ seen (operandWords guest address n) (machine (now (storage .entry)) (now (keys .entry)))) × (length (r .words) ≡ 16) ⌝ }
+    ensures { λ r. ⌜
+        (gathered n r (now (storage .entry)) (now (keys .exit))
+        ≡ seen (operandWords guest address n)
+        (machine (now (storage .entry)) (now (keys .entry)))) × (length (r .words) ≡ 16)
+        ⌝ }
 {
     let mut words = [0u32; 16];
     let mut count: u32 = 0;

@@ -10,7 +10,10 @@ use storage::Stepped;
 
 // Steps 1 and 2: the address of ECBLOK.
 pub(crate) fn control_block(storage: &[u8], keys: &mut [u8], guest: Guest) -> Stepped
-    ensures { λ r. ⌜ told r (now (storage .entry)) (now (keys .exit)) ≡ seen (controlBlock guest) (machine (now (storage .entry)) (now (keys .entry))) ⌝ }
+    ensures { λ r. ⌜
+        told r (now (storage .entry)) (now (keys .exit))
+        ≡ seen (controlBlock guest) (machine (now (storage .entry)) (now (keys .entry)))
+        ⌝ }
 {
     if !access::assists_control(guest) {
         return Stepped::Stopped(Ending::Interruption(Exception::PrivilegedOperation), 0);
@@ -24,7 +27,10 @@ pub(crate) fn control_block(storage: &[u8], keys: &mut [u8], guest: Guest) -> St
 
 // Steps 3 and 4: the operand's address, on a word.
 pub(crate) fn word_operand(storage: &[u8], keys: &mut [u8], guest: Guest) -> Stepped
-    ensures { λ r. ⌜ told r (now (storage .entry)) (now (keys .exit)) ≡ seen (wordOperand guest) (machine (now (storage .entry)) (now (keys .entry))) ⌝ }
+    ensures { λ r. ⌜
+        told r (now (storage .entry)) (now (keys .exit))
+        ≡ seen (wordOperand guest) (machine (now (storage .entry)) (now (keys .entry)))
+        ⌝ }
 {
     let second = access::second_halfword(storage, keys, guest);
     let Stepped::Value(halfword, count) = second else {

@@ -13,7 +13,10 @@ use rules::Call;
 use storage::Stepped;
 
 pub fn store_control(storage: &mut [u8], keys: &mut [u8], call: Call) -> Answer
-    ensures { λ r. ⌜ finished r (now (storage .exit)) (now (keys .exit)) ≡ finish (call .guest) (seen (storeControl call) (machine (now (storage .entry)) (now (keys .entry)))) ⌝ }
+    ensures { λ r. ⌜
+        finished r (now (storage .exit)) (now (keys .exit))
+        ≡ finish (call .guest) (seen (storeControl call) (machine (now (storage .entry)) (now (keys .entry))))
+        ⌝ }
 {
     let guest = call.guest;
     let block = control_block(storage, keys, guest);

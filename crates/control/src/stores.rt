@@ -14,7 +14,10 @@ pub(crate) fn store_words(
     n: u32,
 )
     requires { ⌜ n ≤ 16 ⌝ }
-    ensures { λ _. ⌜ machine (now (storage .exit)) (now (keys .exit)) ≡ performAll (machine (now (storage .entry)) (now (keys .entry))) (wordStores (take n reals) (take n values)) ⌝ }
+    ensures { λ _. ⌜
+        machine (now (storage .exit)) (now (keys .exit))
+        ≡ performAll (machine (now (storage .entry)) (now (keys .entry))) (wordStores (take n reals) (take n values))
+        ⌝ }
 {
     let mut i: u32 = 0;
     while i < n {

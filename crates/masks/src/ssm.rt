@@ -18,7 +18,10 @@ use storage::Width;
 // Steps 1 to 6: the operand byte.
 // Bit 1 of virtual control register 0 refuses before the second halfword is fetched (step 4).
 fn mask_operand(storage: &[u8], keys: &mut [u8], guest: Guest) -> Stepped
-    ensures { λ r. ⌜ told r (now (storage .entry)) (now (keys .exit)) ≡ seen (maskOperand guest) (machine (now (storage .entry)) (now (keys .entry))) ⌝ }
+    ensures { λ r. ⌜
+        told r (now (storage .entry)) (now (keys .exit))
+        ≡ seen (maskOperand guest) (machine (now (storage .entry)) (now (keys .entry)))
+        ⌝ }
 {
     let refuse = Ending::Interruption(Exception::PrivilegedOperation);
     if guest.cr6 / 1073741824 % 4 != 2 {
@@ -72,7 +75,10 @@ fn is_refused(waiting: bool, old: u32, new: u32) -> bool
 
 // Steps 7 to 9: the address of the virtual PSW, where the new mask may be put.
 fn mask_target(storage: &[u8], keys: &mut [u8], call: Call, new: u32) -> Stepped
-    ensures { λ r. ⌜ told r (now (storage .entry)) (now (keys .exit)) ≡ seen (maskTarget call new) (machine (now (storage .entry)) (now (keys .entry))) ⌝ }
+    ensures { λ r. ⌜
+        told r (now (storage .entry)) (now (keys .exit))
+        ≡ seen (maskTarget call new) (machine (now (storage .entry)) (now (keys .entry)))
+        ⌝ }
 {
     let guest = call.guest;
     let field = access::micvpsw(storage, keys, 7, guest);
@@ -97,7 +103,10 @@ fn mask_target(storage: &[u8], keys: &mut [u8], call: Call, new: u32) -> Stepped
 }
 
 pub fn set_system_mask(storage: &mut [u8], keys: &mut [u8], call: Call) -> Answer
-    ensures { λ r. ⌜ finished r (now (storage .exit)) (now (keys .exit)) ≡ finish (call .guest) (seen (setSystemMask call) (machine (now (storage .entry)) (now (keys .entry)))) ⌝ }
+    ensures { λ r. ⌜
+        finished r (now (storage .exit)) (now (keys .exit))
+        ≡ finish (call .guest) (seen (setSystemMask call) (machine (now (storage .entry)) (now (keys .entry))))
+        ⌝ }
 {
     let guest = call.guest;
     let operand = mask_operand(storage, keys, guest);

@@ -52,7 +52,10 @@ fn needs_expanded(change: MaskChange, ec: bool, waiting: bool, old: u32, new: u3
 // Steps 5 and 6: the real address of the operand, tested for a store. Any access exception of the second halfword
 // refuses.
 fn byte_operand(storage: &[u8], keys: &mut [u8], guest: Guest) -> Stepped
-    ensures { λ r. ⌜ told r (now (storage .entry)) (now (keys .exit)) ≡ seen (byteOperand guest) (machine (now (storage .entry)) (now (keys .entry))) ⌝ }
+    ensures { λ r. ⌜
+        told r (now (storage .entry)) (now (keys .exit))
+        ≡ seen (byteOperand guest) (machine (now (storage .entry)) (now (keys .entry)))
+        ⌝ }
 {
     let second = access::second_halfword(storage, keys, guest).or_refuse();
     let Stepped::Value(halfword, count) = second else {
@@ -62,7 +65,10 @@ fn byte_operand(storage: &[u8], keys: &mut [u8], guest: Guest) -> Stepped
 }
 
 pub fn store_then(storage: &mut [u8], keys: &mut [u8], change: MaskChange, call: Call) -> Answer
-    ensures { λ r. ⌜ finished r (now (storage .exit)) (now (keys .exit)) ≡ finish (call .guest) (seen (storeThen change call) (machine (now (storage .entry)) (now (keys .entry)))) ⌝ }
+    ensures { λ r. ⌜
+        finished r (now (storage .exit)) (now (keys .exit))
+        ≡ finish (call .guest) (seen (storeThen change call) (machine (now (storage .entry)) (now (keys .entry))))
+        ⌝ }
 {
     let guest = call.guest;
     if !access::assists_control(guest) {

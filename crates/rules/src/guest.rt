@@ -1,6 +1,7 @@
 // A guest's record: the real PSW, the general registers, and real control registers 0, 1 and 6.
 ghost use mathlib.Core.Path.{_≡_};
-ghost use Rattle.rules.specs.Guest.{instructionAddress, datOn, pswKey, extendedControl, problemState, advance, register, base, effective, micblok};
+ghost use Rattle.rules.specs.Guest.{instructionAddress, datOn, pswKey, extendedControl, problemState};
+ghost use Rattle.rules.specs.Guest.{advance, register, base, effective, micblok};
 
 pub struct Guest {
     pub psw: u64,

@@ -10,7 +10,11 @@ use rules::Ending;
 
 // A key consulted for protection: its five left bits.
 pub fn protection_key(keys: &mut [u8], block: u32, missing: Ending) -> Stepped
-    ensures { λ r. ⌜ ((s : List ℕ) → told r s (now (keys .exit)) ≡ seen (consultKey protection block missing) (machine s (now (keys .entry)))) ⌝ }
+    ensures { λ r. ⌜
+        ((s : List ℕ) →
+        told r s (now (keys .exit))
+        ≡ seen (consultKey protection block missing) (machine s (now (keys .entry))))
+        ⌝ }
 {
     let i = block as usize;
     if i < keys.len() {
@@ -21,7 +25,11 @@ pub fn protection_key(keys: &mut [u8], block: u32, missing: Ending) -> Stepped
 
 // A key consulted whole.
 pub fn whole_key(keys: &mut [u8], block: u32, missing: Ending) -> Stepped
-    ensures { λ r. ⌜ ((s : List ℕ) → told r s (now (keys .exit)) ≡ seen (consultKey whole block missing) (machine s (now (keys .entry)))) ⌝ }
+    ensures { λ r. ⌜
+        ((s : List ℕ) →
+        told r s (now (keys .exit))
+        ≡ seen (consultKey whole block missing) (machine s (now (keys .entry))))
+        ⌝ }
 {
     let i = block as usize;
     if i < keys.len() {

@@ -50,14 +50,21 @@ fn fetched(item: Item, missing: Ending) -> Stepped
 
 // An item of storage: what it gives for any ending that its absence may have.
 pub fn item(storage: &[u8], keys: &mut [u8], width: Width, at: u32) -> Item
-    ensures { λ r. ⌜ ((e : Ending) → told (fetchedAs r e) (now (storage .entry)) (now (keys .exit)) ≡ seen (fetchBytes at (bytesIn width) e) (machine (now (storage .entry)) (now (keys .entry)))) ⌝ }
+    ensures { λ r. ⌜
+        ((e : Ending) →
+        told (fetchedAs r e) (now (storage .entry)) (now (keys .exit))
+        ≡ seen (fetchBytes at (bytesIn width) e) (machine (now (storage .entry)) (now (keys .entry))))
+        ⌝ }
 {
     item_at(storage, width, at)
 }
 
 // The same, or this ending if a byte of it is not there.
 pub fn fetch(storage: &[u8], keys: &mut [u8], width: Width, at: u32, missing: Ending) -> Stepped
-    ensures { λ r. ⌜ told r (now (storage .entry)) (now (keys .exit)) ≡ seen (fetchBytes at (bytesIn width) missing) (machine (now (storage .entry)) (now (keys .entry))) ⌝ }
+    ensures { λ r. ⌜
+        told r (now (storage .entry)) (now (keys .exit))
+        ≡ seen (fetchBytes at (bytesIn width) missing) (machine (now (storage .entry)) (now (keys .entry)))
+        ⌝ }
 {
     fetched(item(storage, keys, width, at), missing)
 }

@@ -28,7 +28,10 @@ fn put_word(part: &mut [u8], value: u32)
 }
 
 pub fn store_byte(storage: &mut [u8], keys: &mut [u8], at: u32, value: u32)
-    ensures { λ _. ⌜ machine (now (storage .exit)) (now (keys .exit)) ≡ perform (machine (now (storage .entry)) (now (keys .entry))) (store at 1 value) ⌝ }
+    ensures { λ _. ⌜
+        machine (now (storage .exit)) (now (keys .exit))
+        ≡ perform (machine (now (storage .entry)) (now (keys .entry))) (store at 1 value)
+        ⌝ }
 {
     put_byte(storage, at, value);
 }
@@ -48,7 +51,10 @@ fn put_bytes(storage: &mut [u8], at: u32, value: u32)
 
 // A word: the four-byte part of storage that starts at its address is lent for it, where it is in one piece.
 pub fn store_word(storage: &mut [u8], keys: &mut [u8], at: u32, value: u32)
-    ensures { λ _. ⌜ machine (now (storage .exit)) (now (keys .exit)) ≡ perform (machine (now (storage .entry)) (now (keys .entry))) (store at 4 value) ⌝ }
+    ensures { λ _. ⌜
+        machine (now (storage .exit)) (now (keys .exit))
+        ≡ perform (machine (now (storage .entry)) (now (keys .entry))) (store at 4 value)
+        ⌝ }
 {
     let start = at as usize;
     let end = start + 4;
@@ -64,7 +70,11 @@ pub fn store_word(storage: &mut [u8], keys: &mut [u8], at: u32, value: u32)
 }
 
 pub fn set_key(keys: &mut [u8], block: u32, key: u8)
-    ensures { λ _. ⌜ ((s : List ℕ) → machine s (now (keys .exit)) ≡ perform (machine s (now (keys .entry))) (setKey block key)) ⌝ }
+    ensures { λ _. ⌜
+        ((s : List ℕ) →
+        machine s (now (keys .exit))
+        ≡ perform (machine s (now (keys .entry))) (setKey block key))
+        ⌝ }
 {
     let i = block as usize;
     if i < keys.len() {

@@ -26,7 +26,12 @@ fn set_key_in(
     segment: u32,
     at: u32,
 ) -> Answer
-    ensures { λ r. ⌜ finished r (now (storage .exit)) (now (keys .exit)) ≡ finish (call .guest) (seen (setKeyIn call format segment at) (machine (now (storage .entry)) (now (keys .entry)))) ⌝ }
+    ensures { λ r. ⌜
+        finished r (now (storage .exit)) (now (keys .exit))
+        ≡ finish (call .guest)
+        (seen (setKeyIn call format segment at)
+        (machine (now (storage .entry)) (now (keys .entry))))
+        ⌝ }
 {
     let guest = call.guest;
     let found = swap_word_at(storage, keys, format, segment, at);
@@ -63,7 +68,10 @@ fn set_key_in(
 }
 
 pub fn set_storage_key(storage: &mut [u8], keys: &mut [u8], call: Call) -> Answer
-    ensures { λ r. ⌜ finished r (now (storage .exit)) (now (keys .exit)) ≡ finish (call .guest) (seen (setStorageKey call) (machine (now (storage .entry)) (now (keys .entry)))) ⌝ }
+    ensures { λ r. ⌜
+        finished r (now (storage .exit)) (now (keys .exit))
+        ≡ finish (call .guest) (seen (setStorageKey call) (machine (now (storage .entry)) (now (keys .entry))))
+        ⌝ }
 {
     let guest = call.guest;
     let at = address_word(call) % 16777216;

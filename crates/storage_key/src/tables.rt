@@ -16,7 +16,10 @@ use storage::Stepped;
 
 // Steps 1 to 3: MICRSEG.
 pub(crate) fn segment_table(storage: &[u8], keys: &mut [u8], call: Call) -> Stepped
-    ensures { λ r. ⌜ told r (now (storage .entry)) (now (keys .exit)) ≡ seen (segmentTable call) (machine (now (storage .entry)) (now (keys .entry))) ⌝ }
+    ensures { λ r. ⌜
+        told r (now (storage .entry)) (now (keys .exit))
+        ≡ seen (segmentTable call) (machine (now (storage .entry)) (now (keys .entry)))
+        ⌝ }
 {
     let refuse = Ending::Interruption(Exception::PrivilegedOperation);
     let guest = call.guest;
@@ -80,7 +83,10 @@ pub(crate) fn swap_word_at(
     segment: u32,
     at: u32,
 ) -> Stepped
-    ensures { λ r. ⌜ told r (now (storage .entry)) (now (keys .exit)) ≡ seen (swapWordAt format segment at) (machine (now (storage .entry)) (now (keys .entry))) ⌝ }
+    ensures { λ r. ⌜
+        told r (now (storage .entry)) (now (keys .exit))
+        ≡ seen (swapWordAt format segment at) (machine (now (storage .entry)) (now (keys .entry)))
+        ⌝ }
 {
     let place = rules::difference(access::page_table(segment), 4);
     let field = access::control_word(storage, keys, 7, place);
@@ -99,7 +105,10 @@ pub(crate) fn page_of(
     segment: u32,
     at: u32,
 ) -> Stepped
-    ensures { λ r. ⌜ told r (now (storage .entry)) (now (keys .exit)) ≡ seen (pageOf format segment at) (machine (now (storage .entry)) (now (keys .entry))) ⌝ }
+    ensures { λ r. ⌜
+        told r (now (storage .entry)) (now (keys .exit))
+        ≡ seen (pageOf format segment at) (machine (now (storage .entry)) (now (keys .entry)))
+        ⌝ }
 {
     let place = access::page_entry_at(format, segment, at);
     let field = access::control_halfword(storage, keys, 9, place);

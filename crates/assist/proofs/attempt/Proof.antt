@@ -18,16 +18,12 @@ returns c =
     let call : Call = record { guest = a .guest; first = a .first; installed = a .installed } in
     let e = c .before .before .before .before .program .ensures ∙ attempts m call in
     let answer = ap (λ f. f .answer) e in
-    let counted = count-bounded m call in (
-      answer,
-      (
-        ap (λ x. numbers (x .ending)) answer,
-        (
-          (ap (λ x. x .count) answer ∙ counted .length, subst (λ n. n ≤ 85) (sym (ap (λ x. x .count) answer)) (counted .atMost)),
-          (ap (λ f. f .after .storage) e, ap (λ f. f .after .keys) e),
-        ),
-      ),
-    )
+    let count = ap (λ x. x .count) answer in
+    let counted = count-bounded m call in
+    let bound = subst (λ n. n ≤ 85) (sym count) (counted .atMost) in
+    let storage = ap (λ f. f .after .storage) e in
+    let keys = ap (λ f. f .after .keys) e in
+    (answer, (ap (λ x. numbers (x .ending)) answer, (count ∙ counted .length, (bound, (storage, keys)))))
 
 pub attempt-spec : {M : Type 1} → statement M
 attempt-spec = tie.close (tie.spec (λ c κs. search needs) (λ c. search needs) (λ c. search needs) returns)

@@ -2,7 +2,9 @@
 ghost use mathlib.Core.Path.{_≡_};
 ghost use mathlib.Core.Bool.{not, _&&_};
 ghost use Prim.Native.Nat.{_<_};
+ghost use Rattle.rules.specs.Machine.{perform, store};
 ghost use Rattle.rules.specs.Masks.{maskIn, extendedIn, atAny, allBits, rises};
+ghost use Rattle.storage.specs.Answers.{machine};
 
 pub(crate) fn mask_in(first: u32) -> u32
     ensures { λ r. ⌜ (r ≡ maskIn first) × (r < 256) ⌝ }
@@ -36,4 +38,14 @@ pub(crate) fn any_rises(old: u32, new: u32) -> bool
                         | (goes_up(old / 4 % 2 == 1, new / 4 % 2 == 1)
                             | (goes_up(old / 2 % 2 == 1, new / 2 % 2 == 1)
                                 | goes_up(old % 2 == 1, new % 2 == 1)))))))
+}
+
+// The new mask as byte 0 of the virtual PSW, and no other byte.
+pub(crate) fn put_mask(storage: &mut [u8], keys: &mut [u8], at: u32, mask: u32)
+    ensures { λ _. ⌜
+        machine (now (storage .exit)) (now (keys .exit))
+        ≡ perform (machine (now (storage .entry)) (now (keys .entry))) (store at 1 mask)
+        ⌝ }
+{
+    storage::store_byte(storage, keys, at, mask);
 }

@@ -7,6 +7,7 @@ use crate::bits::any_rises;
 use crate::bits::goes_up;
 use crate::bits::is_extended;
 use crate::bits::mask_in;
+use crate::bits::put_mask;
 use rules::Answer;
 use rules::Call;
 use rules::Ending;
@@ -117,6 +118,6 @@ pub fn set_system_mask(storage: &mut [u8], keys: &mut [u8], call: Call) -> Answe
     let Stepped::Value(at, count) = target else {
         return target.ending(guest);
     };
-    storage::store_byte(storage, keys, at, new);
+    put_mask(storage, keys, at, new);
     storage::completed(call, 4, count, 1)
 }

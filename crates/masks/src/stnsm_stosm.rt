@@ -8,6 +8,7 @@ use crate::bits::any_rises;
 use crate::bits::goes_up;
 use crate::bits::is_extended;
 use crate::bits::mask_in;
+use crate::bits::put_mask;
 use rules::Answer;
 use rules::Call;
 use rules::Ending;
@@ -100,6 +101,6 @@ pub fn store_then(storage: &mut [u8], keys: &mut [u8], change: MaskChange, call:
         return operand.ending(guest);
     };
     storage::store_byte(storage, keys, real, old);
-    storage::store_byte(storage, keys, at, new);
+    put_mask(storage, keys, at, new);
     storage::completed(call, 4, count, 2)
 }

@@ -31,9 +31,10 @@ impl Stepped {
 pub fn completed(call: Call, bytes: u32, reads: u32, writes: u32) -> Answer
     ensures { λ r. ⌜ r ≡ completion call bytes reads writes ⌝ }
 {
+    let ending = Ending::Completed;
     let guest = call.guest;
     Answer {
-        ending: Ending::Completed,
+        ending,
         count: std::num::wrapping_add_u32(reads, writes),
         guest: guest.advance(bytes),
     }

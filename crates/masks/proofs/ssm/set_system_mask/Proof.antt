@@ -57,8 +57,8 @@ returns-3 : tie.Need-returns-3
 unfolding setSystemMask operand target
 returns-3 c =
     let a = c .before .before .before .before .before .before .before .before .before .before .before .before .before .before .before .before .before .before .before .before .before .before .before .before .before .before .before .before .args in
-    completes (a .call) (c .completed .result) (c .before .before .before .before .before .store-byte .last .0) (c .before .before .before .before .before .store-byte .last .1 .0) 4 _ (target (c .before .before .before .before .before .before .before .before) .3)
-    (c .completed .ensures) (c .before .before .before .before .before .store-byte .ensures)
+    completes (a .call) (c .completed .result) (c .before .before .before .before .before .put-mask .last .0) (c .before .before .before .before .before .put-mask .last .1 .0) 4 _ (target (c .before .before .before .before .before .before .before .before) .3)
+    (c .completed .ensures) (c .before .before .before .before .before .put-mask .ensures)
 
 pub set-system-mask-spec : {M : Type 1} → statement M
 set-system-mask-spec =

@@ -131,7 +131,7 @@ returns-5 c =
     (waited (c .before .before .before .before .before .before .byte-operand .result) (c .before .before .before .after2 .result) _ s ks _ _ (c .before .before .before .after2 .ensures) (c .before .before .before .before .before .before .byte-operand .ensures)) (c .before .enum-told3 .given .1))
 
 same-length-10 : tie.Need-same-length-10
-same-length-10 c = c .before .before .before .before .before .store-byte2 .kept .1 .0 ∙ c .before .before .before .before .before .before .before .before .before .before .before .before .store-byte .kept .1 .0 ∙ c .before .before .before .before .before .before .before .before .before .before .before .before .before .before .before .before .before .before .before .before .before .byte-operand .kept .1 .0 ∙ c .before .before .before .before .before .before .before .before .before .before .before .before .before .before .before .before .before .before .before .before .before .before .before .before .before .before .before .before .before .before .before .before .before .before .before .before .before .control-halfword .kept .1 .0 ∙ c .before .before .before .before .before .before .before .before .before .before .before .before .before .before .before .before .before .before .before .before .before .before .before .before .before .before .before .before .before .before .before .before .before .before .before .before .before .before .before .before .before .before .before .before .before .before .micvpsw .kept .1 .0
+same-length-10 c = c .before .before .before .before .before .put-mask .kept .1 .0 ∙ c .before .before .before .before .before .before .before .before .before .before .before .before .store-byte .kept .1 .0 ∙ c .before .before .before .before .before .before .before .before .before .before .before .before .before .before .before .before .before .before .before .before .before .byte-operand .kept .1 .0 ∙ c .before .before .before .before .before .before .before .before .before .before .before .before .before .before .before .before .before .before .before .before .before .before .before .before .before .before .before .before .before .before .before .before .before .before .before .before .before .control-halfword .kept .1 .0 ∙ c .before .before .before .before .before .before .before .before .before .before .before .before .before .before .before .before .before .before .before .before .before .before .before .before .before .before .before .before .before .before .before .before .before .before .before .before .before .before .before .before .before .before .before .before .before .before .micvpsw .kept .1 .0
 
 returns-6 : tie.Need-returns-6
 unfolding storeThen assisted field halfword passed operand
@@ -140,8 +140,8 @@ returns-6 c =
     let old = maskIn (c .before .before .before .before .before .before .before .before .before .before .before .before .before .before .before .before .before .before .before .before .before .before .before .before .before .before .before .before .before .before .before .before .halfword .given .0 .0) in
     let new = store (addressIn (c .before .before .before .before .before .before .before .before .before .before .before .before .before .before .before .before .before .before .before .before .before .before .before .before .before .before .before .before .before .before .before .before .before .before .before .before .before .before .before .before .before .before .field .given .0 .0)) 1 (newMask (a .change) old (immediate (a .call))) in
     let first = simp (c .before .before .before .before .before .before .before .before .before .before .before .before .before .before .before .before .before .before .before .before .before .before .before .before .before .before .before .before .before .before .mask-in .ensures .0) at (c .before .before .before .before .before .before .before .before .before .before .before .before .store-byte .ensures) in
-    let second = simp (changed (c .before .before .before .before .before .before .before .before .before .before .before .before .before .before .before .before .before .before .before .before .before .before .before .before .before .before .before .before), c .before .before .before .before .before .before .before .before .before .before .before .before .before .before .before .before .before .before .before .before .before .before .before .before .before .before .before .before .before .before .before .before .before .before .before .before .before .before .before .before .address-in .ensures) at (c .before .before .before .before .before .store-byte2 .ensures) in
-    completes (a .call) (c .completed .result) (c .before .before .before .before .before .store-byte2 .last .0) (c .before .before .before .before .before .store-byte2 .last .1 .0) 4 _ (operand (c .before .before .before .before .before .before .before .before .before .before .before .before .before .before .before) .3)
+    let second = simp (changed (c .before .before .before .before .before .before .before .before .before .before .before .before .before .before .before .before .before .before .before .before .before .before .before .before .before .before .before .before), c .before .before .before .before .before .before .before .before .before .before .before .before .before .before .before .before .before .before .before .before .before .before .before .before .before .before .before .before .before .before .before .before .before .before .before .before .before .before .before .before .address-in .ensures) at (c .before .before .before .before .before .put-mask .ensures) in
+    completes (a .call) (c .completed .result) (c .before .before .before .before .before .put-mask .last .0) (c .before .before .before .before .before .put-mask .last .1 .0) 4 _ (operand (c .before .before .before .before .before .before .before .before .before .before .before .before .before .before .before) .3)
     (c .completed .ensures) (second ∙ ap (λ m. perform m new) first)
 
 pub store-then-spec : {M : Type 1} → statement M

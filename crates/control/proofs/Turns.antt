@@ -28,7 +28,8 @@ module _ (p : ℕ → Steps ℕ) (next : ℕ → ℕ) {m m′ : Machine} {t : St
     pub turn : {v d : ℕ} → i < length words → r ≡ Value v d
         → Runs m t d (machine s ks) (gather p next (take (i + 1) (set words i v)) (next x) (n - (i + 1)))
     turn {v} {d} room e =
-        let l : take i words ++ v ∷ [] ≡ take (i + 1) (set words i v) = rw add-one (sym (take-suc-set words i v room)) in
+        let l : take i words ++ v ∷ [] ≡ take (i + 1) (set words i v) =
+        rw add-one (sym (take-suc-set words i v room)) in
         rw l at (step r s ks _ _ opened f e)
 
     -- or the end

@@ -52,7 +52,8 @@ counted x n = record { outcome = x .outcome; count = n; left = x .left }
 pub more-zero : {A : Type 0} (p : Steps A) (m : Machine) → seen p m ≡ more 0 (seen p m)
 unfolding seen
 more-zero p m =
-    ap (counted (seen p m)) (let e : view p m .count % 2 ^ 32 ≡ (0 + view p m .count % 2 ^ 32) % 2 ^ 32 = omega arith in e)
+    let c = view p m .count in
+    ap (counted (seen p m)) (let e : c % 2 ^ 32 ≡ (0 + c % 2 ^ 32) % 2 ^ 32 = omega arith in e)
 
 pub begin : {A : Type 0} → (m : Machine) (t : Steps A) → Runs m t 0 m t
 begin m t = record { so = more-zero t m; small = omega arith }
@@ -224,7 +225,7 @@ finish-more n g v = go (v .outcome) (v .count) (v .left)
         finish g (more n v) ≡ deferred n (finish g v)
     go (ended e) k l = refl
     go (gave c) k l =
-        ap (λ z. finished (answer Completed z (c .guest)) (performAll l (c .writes) .storage) (performAll l (c .writes) .keys))
+        ap (λ z. record { answer = answer Completed z (c .guest); after = performAll l (c .writes) })
         (let z : ((n + k) % 2 ^ 32 + length (c .writes)) % 2 ^ 32 ≡ (n + (k + length (c .writes)) % 2 ^ 32) % 2 ^ 32 =
         omega arith in z)
 

@@ -13,10 +13,12 @@ use Rattle.assist.proofs.attempt.Tie as tie
 returns : tie.Need-returns
 unfolding attempted
 returns c =
-    let a = c .before .before .before .before .before .before .before .before .before .args in
+    let at-program = c .before .before .before .before in
+    let start = at-program .before .before .before .before .before in
+    let a = start .args in
     let m = machine (a .storage .now) (a .keys .now) in
     let call : Call = record { guest = a .guest; first = a .first; installed = a .installed } in
-    let e = c .before .before .before .before .program .ensures ∙ attempts m call in
+    let e = at-program .program .ensures ∙ attempts m call in
     let answer = ap (λ f. f .answer) e in
     let count = ap (λ x. x .count) answer in
     let counted = count-bounded m call in

@@ -16,77 +16,117 @@ Here c =
     let ks = a .keys .now in
     Left (machine s ks) (program (length s) (length ks) (a .call))
 
-abbrev start : (c : tie.Start) → Here c
-start c =
+abbrev begun : (c : tie.Start) → Here c
+begun c =
     let a = c .args in
     let s = a .storage .now in
     let ks = a .keys .now in
     (_, _, _, begin (machine s ks) (program (length s) (length ks) (a .call)))
 
 -- 10 passed
-abbrev stored : (c : tie.Else1) → Here (c .before .before .before .before .before)
+abbrev stored : (c : tie.Else1)
+    → let start = c .before .before .before .before .before in
+    Here start
 unfolding program
-stored c = (_, _, _, pass _ _ _ (start (c .before .before .before .before .before) .3) (sym (c .before .is-wrong-storage .ensures) ∙ c .if1 .left))
+stored c =
+    let start = c .before .before .before .before .before in
+    (_, _, _, pass _ _ _ (begun start .3) (sym (c .before .is-wrong-storage .ensures) ∙ c .if1 .left))
 
 -- 11
-abbrev keyed : (c : tie.Else2) → Here (c .before .before .before .before .before .before .before)
+abbrev keyed : (c : tie.Else2)
+    → let start = c .before .before .before .before .before .before .before in
+    Here start
 unfolding program stored
-keyed c = (_, _, _, pass _ _ _ (stored (c .before .before) .3) (sym (c .before .is-wrong-keys .ensures) ∙ c .if2 .left))
+keyed c =
+    let at-if1 = c .before .before in
+    (_, _, _, pass _ _ _ (stored at-if1 .3) (sym (c .before .is-wrong-keys .ensures) ∙ c .if2 .left))
 
 -- 12
-abbrev even : (c : tie.Else3) → Here (c .before .before .before .before .before .before .before .before .before)
+abbrev even : (c : tie.Else3)
+    → let start = c .before .before .before .before .before .before .before .before .before in
+    Here start
 unfolding program stored keyed
-even c = (_, _, _, pass _ _ _ (keyed (c .before .before) .3) (sym (c .before .is-odd .ensures) ∙ c .if3 .left))
+even c =
+    let at-if2 = c .before .before in
+    (_, _, _, pass _ _ _ (keyed at-if2 .3) (sym (c .before .is-odd .ensures) ∙ c .if3 .left))
 
 -- 13
-assisted : (c : tie.After-is-assisted) → not (c .is-assisted .result) ≡ not (isAssisted (operation (c .before .before .before .before .before .before .before .before .before .before .before .args .call)))
+assisted : (c : tie.After-is-assisted)
+    → let at-slice-known = c .before .before .before .before .before .before .before .before .before .before in
+    not (c .is-assisted .result) ≡ not (isAssisted (operation (at-slice-known .before .args .call)))
 assisted c = ap not (simp (c .before .operation .ensures) at (c .is-assisted .ensures))
 
-abbrev known : (c : tie.Else4) → Here (c .before .before .before .before .before .before .before .before .before .before .before .before)
+abbrev known : (c : tie.Else4)
+    → let at-slice-known2 = c .before .before .before .before .before .before .before .before .before .before in
+    let start = at-slice-known2 .before .before in
+    Here start
 unfolding program stored keyed even
-known c = (_, _, _, pass _ _ _ (even (c .before .before .before) .3) (sym (assisted (c .before)) ∙ c .if4 .left))
+known c =
+    let at-if3 = c .before .before .before in
+    (_, _, _, pass _ _ _ (even at-if3 .3) (sym (assisted (c .before)) ∙ c .if4 .left))
 
 returns : tie.Need-returns
 unfolding program
 returns c =
-    let a = c .before .before .before .before .before .before .args in
+    let at-is-wrong-storage = c .before .before in
+    let start = at-is-wrong-storage .before .before .before .before in
+    let a = start .args in
     stopped-by (a .call .guest) (c .refusal .result) (a .storage .now) (a .keys .now) (c .refusal .ensures)
-    (stops _ _ _ (start (c .before .before .before .before .before .before) .3) (sym (c .before .before .is-wrong-storage .ensures) ∙ c .before .if1 .taken))
+    (stops _ _ _ (begun start .3) (sym (at-is-wrong-storage .is-wrong-storage .ensures) ∙ c .before .if1 .taken))
 
 returns-2 : tie.Need-returns-2
 unfolding program stored
 returns-2 c =
-    let a = c .before .before .before .before .before .before .before .before .args in
+    let at-is-wrong-keys = c .before .before in
+    let start = at-is-wrong-keys .before .before .before .before .before .before in
+    let a = start .args in
     stopped-by (a .call .guest) (c .refusal2 .result) (a .storage .now) (a .keys .now) (c .refusal2 .ensures)
-    (stops _ _ _ (stored (c .before .before .before) .3) (sym (c .before .before .is-wrong-keys .ensures) ∙ c .before .if2 .taken))
+    (stops _ _ _ (stored (at-is-wrong-keys .before) .3)
+    (sym (at-is-wrong-keys .is-wrong-keys .ensures) ∙ c .before .if2 .taken))
 
 returns-3 : tie.Need-returns-3
 unfolding program stored keyed
 returns-3 c =
-    let a = c .before .before .before .before .before .before .before .before .before .before .args in
+    let at-is-odd = c .before .before in
+    let start = at-is-odd .before .before .before .before .before .before .before .before in
+    let a = start .args in
     stopped-by (a .call .guest) (c .refusal3 .result) (a .storage .now) (a .keys .now) (c .refusal3 .ensures)
-    (stops _ _ _ (keyed (c .before .before .before) .3) (sym (c .before .before .is-odd .ensures) ∙ c .before .if3 .taken))
+    (stops _ _ _ (keyed (at-is-odd .before) .3) (sym (at-is-odd .is-odd .ensures) ∙ c .before .if3 .taken))
 
 returns-4 : tie.Need-returns-4
 unfolding program stored keyed even
 returns-4 c =
-    let a = c .before .before .before .before .before .before .before .before .before .before .before .before .before .args in
+    let at-is-assisted = c .before .before in
+    let at-if3 = at-is-assisted .before .before in
+    let start = at-if3 .before .before .before .before .before .before .before .before .before in
+    let a = start .args in
     stopped-by (a .call .guest) (c .refusal4 .result) (a .storage .now) (a .keys .now) (c .refusal4 .ensures)
-    (stops _ _ _ (even (c .before .before .before .before) .3) (sym (assisted (c .before .before)) ∙ c .before .if4 .taken))
+    (stops _ _ _ (even at-if3 .3) (sym (assisted at-is-assisted) ∙ c .before .if4 .taken))
 
 returns-5 : tie.Need-returns-5
 unfolding program stored keyed even known
 returns-5 c =
-    let a = c .before .before .before .before .before .before .before .before .before .before .before .before .before .before .before .args in
+    let at-is-wrong-mode = c .before .before in
+    let at-guest = at-is-wrong-mode .before .before .before .before .before .before .before .before .before .before in
+    let start = at-guest .before .before .before in
+    let a = start .args in
     stopped-by (a .call .guest) (c .refusal5 .result) (a .storage .now) (a .keys .now) (c .refusal5 .ensures)
-    (stops _ _ _ (known (c .before .before .before) .3) (sym (c .before .before .is-wrong-mode .ensures) ∙ c .before .if5 .taken))
+    (stops _ _ _ (known (at-is-wrong-mode .before) .3)
+    (sym (at-is-wrong-mode .is-wrong-mode .ensures) ∙ c .before .if5 .taken))
 
 returns-6 : tie.Need-returns-6
 unfolding program stored keyed even known
 returns-6 c =
-    let a = c .before .before .before .before .before .before .before .before .before .before .before .before .before .before .before .before .before .before .before .before .before .args in
-    continues (a .call .guest) (c .before .before .before .before .instruction .result) (c .before .before .before .before .instruction .last .0) (c .before .before .before .before .instruction .last .1 .0)
-    (pass _ _ _ (known (c .before .before .before .before .before .before .before .before .before) .3) (sym (c .before .before .before .before .before .before .before .before .is-wrong-mode .ensures) ∙ c .before .before .before .before .before .before .before .if5 .left)) (c .before .before .before .before .instruction .ensures)
+    let at-instruction = c .before .before .before .before in
+    let at-if5 = at-instruction .before .before .before in
+    let at-if4 = at-if5 .before .before in
+    let at-slice-known2 = at-if4 .before .before .before .before .before .before .before .before .before .before in
+    let start = at-slice-known2 .before .before in
+    let a = start .args in
+    continues (a .call .guest) (at-instruction .instruction .result) (at-instruction .instruction .last .0)
+    (at-instruction .instruction .last .1 .0)
+    (pass _ _ _ (known at-if4 .3) (sym (at-if5 .before .is-wrong-mode .ensures) ∙ at-if5 .if5 .left))
+    (at-instruction .instruction .ensures)
 
 pub program-spec : {M : Type 1} → statement M
 program-spec =

@@ -7,7 +7,14 @@ use Rattle.rules.specs.Steps.{_>>=_, fetchBytes, stopIf}
 use Rattle.rules.specs.Translation.{Format, segmentEntry}
 use Rattle.rules.specs.ControlFields.{controlWord, micrseg}
 use Rattle.rules.specs.Call.{Call}
-use Rattle.rules.specs.SetStorageKey.{segmentRefusal, setKeyIn, segmentTable, setStorageKey, formatIn, addressWord}
+use Rattle.rules.specs.SetStorageKey.{
+  segmentRefusal,
+  setKeyIn,
+  segmentTable,
+  setStorageKey,
+  formatIn,
+  addressWord,
+}
 use Rattle.rules.specs.Theorems.Answers.{table}
 use Rattle.rules.proofs.Computing.{walking, keying}
 use Rattle.rules.proofs.Within.{Within, Any}

@@ -22,7 +22,18 @@ use Rattle.rules.specs.StoreControl.{
   storeControl,
 }
 use Rattle.rules.proofs.Within.{Within, Any, within-then}
-use Rattle.rules.proofs.Fits.{completes, Stops, stops, Exceptions, access-within, logicalFetch-within, Completes, completes-more, Fits, exceptions}
+use Rattle.rules.proofs.Fits.{
+  completes,
+  Stops,
+  stops,
+  Exceptions,
+  access-within,
+  logicalFetch-within,
+  Completes,
+  completes-more,
+  Fits,
+  exceptions,
+}
 
 stctl-exceptions : (a : ℕ) → a < 2 ^ 24 → Exceptions (Stops 0xb6) a
 stctl-exceptions a l = exceptions 0xb6 a l (refl, refl, refl, refl, refl)
@@ -49,7 +60,8 @@ module _ (p : ℕ → Steps ℕ) (next : ℕ → ℕ) (P : ℕ → Type 0) (k : 
 registers-within : (ecblok r n : ℕ) → Within (Stops 0xb6) (λ xs j. Many n xs) (virtualRegisters ecblok r n) (n * 1)
 unfolding fetchBytes controlWord
 registers-within ecblok r n =
-    gather-within _ _ (λ r. Unit {0}) 1 (λ r t. (stops refl refl refl, λ v. tt)) (λ r t. t) [] r n 0 n tt (omega arith) refl
+    gather-within _ _ (λ r. Unit {0}) 1 (λ r t. (stops refl refl refl, λ v. tt)) (λ r t. t) [] r n 0 n tt
+    (omega arith) refl
 
 operands-within : (g : Guest) (a n : ℕ) → a < 2 ^ 24
     → Within (Stops 0xb6) (λ xs j. Many n xs) (operandWords g a n) (n * 3)

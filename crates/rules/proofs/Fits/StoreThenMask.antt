@@ -58,7 +58,11 @@ storeThen-fits op t change c =
             λ x. stops-expanded op (t .handed) (t .refused) c,
             λ x.
                 fits-then op c (byteOperand g) _ 7 2 9 (omega arith) (byteOperand-within op t g)
-                (λ real. record { possible = t .completed; advanced = ap (advance g) (sym (t .length)); written = omega arith }),
+                (λ real. record {
+                  possible = t .completed;
+                  advanced = ap (advance g) (sym (t .length));
+                  written = omega arith;
+                }),
           ),
         ),
       ),

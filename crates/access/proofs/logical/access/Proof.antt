@@ -14,59 +14,90 @@ Here c =
     let a = c .args in
     Left (machine (a .storage .now) (a .keys .now)) (access (passesFor (a .store)) (a .guest) (a .at))
 
-abbrev resolved : (c : tie.After-known-told) → Here (c .before .before .before .before .before .before .before .before .before)
+abbrev resolved : (c : tie.After-known-told)
+    → let start = c .before .before .before .before .before .before .before .before .before in
+    Here start
 unfolding access
 resolved c =
-    let a = c .before .before .before .before .before .before .before .before .before .args in
+    let at-real-of = c .before .before .before .before .before in
+    let start = at-real-of .before .before .before .before in
+    let a = start .args in
     let m = machine (a .storage .now) (a .keys .now) in (
       _,
       _,
       _,
-      step (c .before .before .before .before .before .real-of .result) (a .storage .now) (c .before .before .before .before .before .real-of .last .1 .0) _ _
-          (begin m (access (passesFor (a .store)) (a .guest) (a .at))) (fresh _ _ (c .before .before .before .before .before .real-of .ensures)) (c .before .resolved .given .1),
+      step (at-real-of .real-of .result) (a .storage .now) (at-real-of .real-of .last .1 .0) _ _
+          (begin m (access (passesFor (a .store)) (a .guest) (a .at))) (fresh _ _ (at-real-of .real-of .ensures))
+          (c .before .resolved .given .1),
     )
 
-abbrev consulted : (c : tie.After-known-told2) → Here (c .before .before .before .before .before .before .before .before .before .before .before .before .before .before .before .before .before)
+abbrev consulted : (c : tie.After-known-told2)
+    → let at-match = c .before .before .before .before .before .before .before .before .before .before in
+    let start = at-match .before .before .before .before .before .before .before in
+    Here start
 unfolding access resolved
 consulted c =
-    let s = c .before .before .before .before .before .before .before .before .before .before .before .before .before .before .before .before .before .args .storage .now in
-    let ks = c .before .before .before .before .before .before .protection-key .last .0 in (
+    let at-after = c .before .before .before in
+    let at-protection-key = at-after .before .before .before in
+    let at-known-told = at-protection-key .before .before in
+    let start = at-known-told .before .before .before .before .before .before .before .before .before in
+    let s = start .args .storage .now in
+    let ks = at-protection-key .protection-key .last .0 in (
       _,
       _,
       _,
-      step (c .before .before .before .after .result) s ks _ _ (resolved (c .before .before .before .before .before .before .before .before) .3)
-          (waited (c .before .before .before .before .before .before .protection-key .result) (c .before .before .before .after .result) _ s ks _ _ (c .before .before .before .after .ensures) (c .before .before .before .before .before .before .protection-key .ensures s))
+      step (at-after .after .result) s ks _ _ (resolved at-known-told .3)
+          (waited (at-protection-key .protection-key .result) (at-after .after .result) _ s ks _ _
+          (at-after .after .ensures) (at-protection-key .protection-key .ensures s))
           (c .before .consulted .given .1),
     )
 
 -- what the test says
-passing : (c : tie.After-passes) → let a = c .before .before .before .before .before .before .before .before .before .before .before .before .before .before .before .before .before .before .before .args in c .passes .result ≡ passesFor (a .store) (pswKey (a .guest)) (c .before .before .before .consulted .given .0 .0)
+passing : (c : tie.After-passes)
+    → let at-consulted = c .before .before .before in
+    let at-slice-known2 =
+    at-consulted .before .before .before .before .before .before .before .before .before .before in
+    let start = at-slice-known2 .before .before .before .before .before .before in
+    let a = start .args in c .passes .result ≡ passesFor (a .store) (pswKey (a .guest))
+    (at-consulted .consulted .given .0 .0)
 passing c = simp (c .before .psw-key .ensures) at (c .passes .ensures)
 
 returns : tie.Need-returns
 unfolding access
 returns c =
-    let a = c .before .before .before .before .before .before .before .before .args in
+    let at-real-of = c .before .before .before .before in
+    let start = at-real-of .before .before .before .before in
+    let a = start .args in
     let m = machine (a .storage .now) (a .keys .now) in
-    hands (c .before .before .before .before .real-of .result) (a .storage .now) (c .before .before .before .before .real-of .last .1 .0) _ _
-    (begin m (access (passesFor (a .store)) (a .guest) (a .at))) (fresh _ _ (c .before .before .before .before .real-of .ensures)) (c .enum-told .given .1)
+    hands (at-real-of .real-of .result) (a .storage .now) (at-real-of .real-of .last .1 .0) _ _
+    (begin m (access (passesFor (a .store)) (a .guest) (a .at))) (fresh _ _ (at-real-of .real-of .ensures))
+    (c .enum-told .given .1)
 
 returns-2 : tie.Need-returns-2
 unfolding access resolved
 returns-2 c =
-    let s = c .before .before .before .before .before .before .before .before .before .before .before .before .before .before .before .before .args .storage .now in
-    let ks = c .before .before .before .before .before .protection-key .last .0 in
-    hands (c .before .before .after .result) s ks _ _ (resolved (c .before .before .before .before .before .before .before) .3)
-    (waited (c .before .before .before .before .before .protection-key .result) (c .before .before .after .result) _ s ks _ _ (c .before .before .after .ensures) (c .before .before .before .before .before .protection-key .ensures s))
+    let at-after = c .before .before in
+    let at-protection-key = at-after .before .before .before in
+    let at-known-told = at-protection-key .before .before in
+    let start = at-known-told .before .before .before .before .before .before .before .before .before in
+    let s = start .args .storage .now in
+    let ks = at-protection-key .protection-key .last .0 in
+    hands (at-after .after .result) s ks _ _ (resolved at-known-told .3)
+    (waited (at-protection-key .protection-key .result) (at-after .after .result) _ s ks _ _
+    (at-after .after .ensures) (at-protection-key .protection-key .ensures s))
     (c .enum-told2 .given .1)
 
 returns-3 : tie.Need-returns-3
 unfolding access resolved consulted
-returns-3 c = settles _ (pass _ _ _ (consulted (c .before .before .before) .3) (ap not (sym (passing (c .before)) ∙ c .if1 .taken)))
+returns-3 c =
+    let at-known-told2 = c .before .before .before in
+    settles _ (pass _ _ _ (consulted at-known-told2 .3) (ap not (sym (passing (c .before)) ∙ c .if1 .taken)))
 
 returns-4 : tie.Need-returns-4
 unfolding access resolved consulted
-returns-4 c = stops _ _ _ (consulted (c .before .before .before) .3) (ap not (sym (passing (c .before)) ∙ c .if1 .left))
+returns-4 c =
+    let at-known-told2 = c .before .before .before in
+    stops _ _ _ (consulted at-known-told2 .3) (ap not (sym (passing (c .before)) ∙ c .if1 .left))
 
 pub access-spec : {M : Type 1} → statement M
 access-spec =

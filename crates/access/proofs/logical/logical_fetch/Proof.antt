@@ -8,33 +8,44 @@ use Rattle.access.proofs.logical.logical_fetch.Statement.{statement}
 use Rattle.access.proofs.logical.logical_fetch.Tie as tie
 
 abbrev tested : (c : tie.After-known-told)
-    → let a = c .before .before .before .before .before .before .before .before .before .args in Left (machine (a .storage .now) (a .keys .now)) (logicalFetch (a .guest) (a .at) (bytesIn (a .width)))
+    → let start = c .before .before .before .before .before .before .before .before .before in
+    let a = start .args in Left (machine (a .storage .now) (a .keys .now))
+    (logicalFetch (a .guest) (a .at) (bytesIn (a .width)))
 unfolding logicalFetch
 tested c =
-    let a = c .before .before .before .before .before .before .before .before .before .args in
+    let at-access = c .before .before .before .before .before in
+    let start = at-access .before .before .before .before in
+    let a = start .args in
     let m = machine (a .storage .now) (a .keys .now) in (
       _,
       _,
       _,
-      step (c .before .before .before .before .before .access .result) (a .storage .now) (c .before .before .before .before .before .access .last .1 .0) _ _
-          (begin m (logicalFetch (a .guest) (a .at) (bytesIn (a .width)))) (fresh _ _ (c .before .before .before .before .before .access .ensures)) (c .before .tested .given .1),
+      step (at-access .access .result) (a .storage .now) (at-access .access .last .1 .0) _ _
+          (begin m (logicalFetch (a .guest) (a .at) (bytesIn (a .width)))) (fresh _ _ (at-access .access .ensures))
+          (c .before .tested .given .1),
     )
 
 returns : tie.Need-returns
 unfolding logicalFetch
 returns c =
-    let a = c .before .before .before .before .before .before .before .before .args in
+    let at-access = c .before .before .before .before in
+    let start = at-access .before .before .before .before in
+    let a = start .args in
     let m = machine (a .storage .now) (a .keys .now) in
-    hands (c .before .before .before .before .access .result) (a .storage .now) (c .before .before .before .before .access .last .1 .0) _ _
-    (begin m (logicalFetch (a .guest) (a .at) (bytesIn (a .width)))) (fresh _ _ (c .before .before .before .before .access .ensures)) (c .enum-told .given .1)
+    hands (at-access .access .result) (a .storage .now) (at-access .access .last .1 .0) _ _
+    (begin m (logicalFetch (a .guest) (a .at) (bytesIn (a .width)))) (fresh _ _ (at-access .access .ensures))
+    (c .enum-told .given .1)
 
 returns-2 : tie.Need-returns-2
 unfolding logicalFetch tested
 returns-2 c =
-    let s = c .before .before .before .before .before .before .before .before .before .before .before .before .before .before .args .storage .now in
-    let ks = c .before .before .before .fetch .last .1 .0 in
-    last (c .after .result) s ks _ (tested (c .before .before .before .before .before) .3)
-    (waited (c .before .before .before .fetch .result) (c .after .result) _ s ks _ _ (c .after .ensures) (c .before .before .before .fetch .ensures))
+    let at-fetch = c .before .before .before in
+    let at-known-told = at-fetch .before .before in
+    let start = at-known-told .before .before .before .before .before .before .before .before .before in
+    let s = start .args .storage .now in
+    let ks = at-fetch .fetch .last .1 .0 in
+    last (c .after .result) s ks _ (tested at-known-told .3)
+    (waited (at-fetch .fetch .result) (c .after .result) _ s ks _ _ (c .after .ensures) (at-fetch .fetch .ensures))
 
 pub logical-fetch-spec : {M : Type 1} → statement M
 logical-fetch-spec =

@@ -9,15 +9,20 @@ use Rattle.access.proofs.logical.real_of.Tie as tie
 returns : tie.Need-returns
 unfolding realOf
 returns c =
-    let a = c .before .before .before .before .before .before .before .before .args in
+    let at-translate = c .before .before in
+    let at-if1 = at-translate .before .before in
+    let start = at-if1 .before .before .before .before in
+    let a = start .args in
     let m = machine (a .storage .now) (a .keys .now) in
-    last (c .before .before .translate .result) (a .storage .now) (c .before .before .translate .last .1 .0) _
-    (chosen _ _ _ (begin m (realOf (a .guest) (a .at))) (sym (c .before .before .before .before .before .dat-on .ensures) ∙ c .before .before .before .before .if1 .taken)) (fresh _ _ (c .before .before .translate .ensures))
+    last (at-translate .translate .result) (a .storage .now) (at-translate .translate .last .1 .0) _
+    (chosen _ _ _ (begin m (realOf (a .guest) (a .at)))
+    (sym (at-if1 .before .dat-on .ensures) ∙ at-if1 .if1 .taken)) (fresh _ _ (at-translate .translate .ensures))
 
 returns-2 : tie.Need-returns-2
 unfolding realOf
 returns-2 c =
-    let a = c .before .before .before .before .args in
+    let start = c .before .before .before .before in
+    let a = start .args in
     let m = machine (a .storage .now) (a .keys .now) in
     settles _ (rejected _ _ _ (begin m (realOf (a .guest) (a .at))) (sym (c .before .dat-on .ensures) ∙ c .if1 .left))
 

@@ -9,10 +9,18 @@ rem-result : tie.Need-rem-result
 rem-result c = sizes.frames _ (c .page-bytes .ensures .2)
 
 mul-result : tie.Need-mul-result
-mul-result c = omega (arith, sizes.real-address (c .before .args .entry / (c .page-bytes .result / 256)) (c .before .args .at) _ (c .page-bytes .ensures .2))
+mul-result c = omega (
+  arith,
+  sizes.real-address (c .before .args .entry / (c .page-bytes .result / 256))
+      (c .before .args .at) _ (c .page-bytes .ensures .2),
+)
 
 add-result : tie.Need-add-result
-add-result c = omega (arith, sizes.real-address (c .before .args .entry / (c .page-bytes .result / 256)) (c .before .args .at) _ (c .page-bytes .ensures .2))
+add-result c = omega (
+  arith,
+  sizes.real-address (c .before .args .entry / (c .page-bytes .result / 256))
+      (c .before .args .at) _ (c .page-bytes .ensures .2),
+)
 
 returns : tie.Need-returns
 returns c = simp (c .page-bytes .ensures .0)

@@ -18,7 +18,9 @@ Here c on =
     Left (machine (a .storage .now) (a .keys .now)) (segmentEntry on (a .format) (a .table) (a .at))
 
 -- step 2 passed
-abbrev reached : (c : tie.Else1) (on : SegmentFault → Ending) → Here (c .before .before .before .before) on
+abbrev reached : (c : tie.Else1) (on : SegmentFault → Ending)
+    → let start = c .before .before .before .before in
+    Here start on
 unfolding segmentEntry
 reached c on =
     let a = c .before .before .before .before .args in
@@ -28,29 +30,45 @@ reached c on =
 
 -- what the fetch of the entry says
 entry-told : (c : tie.After-item) (on : SegmentFault → Ending)
-    → let a = c .before .before .before .before .before .before .before .args in
+    → let start = c .before .before .before .before .before .before .before in
+    let a = start .args in
     let m = machine (a .storage .now) (a .keys .now) in
     told (fetchedAs (c .item .result) (on SegmentEntryMissing)) (a .storage .now) (c .item .last .1 .0)
     ≡ seen (fetchBytes (segmentEntryAt (a .format) (a .table) (a .at)) 4 (on SegmentEntryMissing)) m
-entry-told c on = simp (c .before .before .segment-entry-at .ensures) at (c .item .ensures (on SegmentEntryMissing))
+entry-told c on =
+    let at-segment-entry-at = c .before .before in
+    simp (at-segment-entry-at .segment-entry-at .ensures) at (c .item .ensures (on SegmentEntryMissing))
 
 -- the entry of step 3
-abbrev entered : (c : tie.After-known-told) (on : SegmentFault → Ending) → Here (c .before .before .before .before .before .before .before .before .before .before .before .before) on
+abbrev entered : (c : tie.After-known-told) (on : SegmentFault → Ending)
+    → let at-slice-known = c .before .before .before .before .before .before .before .before .before .before in
+    let start = at-slice-known .before .before in
+    Here start on
 unfolding segmentEntry reached
 entered c on =
+    let at-item = c .before .before .before .before .before in
+    let at-if1 = at-item .before .before .before in
+    let start = at-if1 .before .before .before .before in
     let e = on SegmentEntryMissing in (
       _,
       _,
       _,
-      step (fetchedAs (c .before .before .before .before .before .item .result) e) (c .before .before .before .before .before .before .before .before .before .before .before .before .args .storage .now) (c .before .before .before .before .before .item .last .1 .0) _ _ (reached (c .before .before .before .before .before .before .before .before) on .3)
-          (fresh _ _ (entry-told (c .before .before .before .before .before) on)) (ap (λ i. fetchedAs i e) (c .before .entry .given .1)),
+      step (fetchedAs (at-item .item .result) e) (start .args .storage .now) (at-item .item .last .1 .0) _ _
+          (reached at-if1 on .3)
+          (fresh _ _ (entry-told at-item on)) (ap (λ i. fetchedAs i e) (c .before .entry .given .1)),
     )
 
-abbrev valid : (c : tie.Else2) (on : SegmentFault → Ending) → Here (c .before .before .before .before .before .before .before .before .before .before .before .before .before) on
+abbrev valid : (c : tie.Else2) (on : SegmentFault → Ending)
+    → let at-is-beyond-segments = c .before .before .before .before .before .before .before .before .before .before in
+    let start = at-is-beyond-segments .before .before .before in
+    Here start on
 unfolding segmentEntry reached entered
 valid c on = (_, _, _, pass _ _ _ (entered (c .before) on .3) (ne-eqb _ _ (c .if2 .left)))
 
-abbrev formed : (c : tie.Else3) (on : SegmentFault → Ending) → Here (c .before .before .before .before .before .before .before .before .before .before .before .before .before .before) on
+abbrev formed : (c : tie.Else3) (on : SegmentFault → Ending)
+    → let at-if1 = c .before .before .before .before .before .before .before .before .before .before in
+    let start = at-if1 .before .before .before .before in
+    Here start on
 unfolding segmentEntry reached entered valid
 formed c on = (_, _, _, pass _ _ _ (valid (c .before) on .3) (simp (eq-eqb _ _ (c .if3 .left))))
 
@@ -66,10 +84,14 @@ returns c =
 returns-2 : tie.Need-returns-2
 unfolding segmentEntry reached
 returns-2 c =
+    let at-item = c .before .before .before .before in
+    let at-if1 = at-item .before .before .before in
+    let start = at-if1 .before .before .before .before in
     λ on.
     let e = on SegmentEntryMissing in
-    halts (fetchedAs (c .before .before .before .before .item .result) e) (c .before .before .before .before .before .before .before .before .before .before .before .args .storage .now) (c .before .before .before .before .item .last .1 .0) _ _ (reached (c .before .before .before .before .before .before .before) on .3)
-    (fresh _ _ (entry-told (c .before .before .before .before) on)) (ap (λ i. fetchedAs i e) (c .enum-told .given .1))
+    halts (fetchedAs (at-item .item .result) e) (start .args .storage .now) (at-item .item .last .1 .0) _ _
+    (reached at-if1 on .3)
+    (fresh _ _ (entry-told at-item on)) (ap (λ i. fetchedAs i e) (c .enum-told .given .1))
 
 returns-3 : tie.Need-returns-3
 unfolding segmentEntry reached entered
@@ -81,11 +103,15 @@ returns-4 c = λ on. stops _ _ _ (valid (c .before) on .3) (simp (ne-eqb _ _ (c 
 
 returns-5 : tie.Need-returns-5
 unfolding segmentEntry reached entered valid formed
-returns-5 c = λ on. stops _ _ _ (formed (c .before .before) on .3) (sym (c .before .is-beyond-pages .ensures) ∙ c .if4 .taken)
+returns-5 c =
+    let at-if3 = c .before .before in
+    λ on. stops _ _ _ (formed at-if3 on .3) (sym (c .before .is-beyond-pages .ensures) ∙ c .if4 .taken)
 
 returns-6 : tie.Need-returns-6
 unfolding segmentEntry reached entered valid formed
-returns-6 c = λ on. settles _ (pass _ _ _ (formed (c .before .before) on .3) (sym (c .before .is-beyond-pages .ensures) ∙ c .if4 .left))
+returns-6 c =
+    let at-if3 = c .before .before in
+    λ on. settles _ (pass _ _ _ (formed at-if3 on .3) (sym (c .before .is-beyond-pages .ensures) ∙ c .if4 .left))
 
 pub segment-entry-spec : {M : Type 1} → statement M
 segment-entry-spec =

@@ -13,4 +13,5 @@ returns c = simp (c .sum .ensures, c .before .segment-bytes .ensures .0)
 
 pub segment-entry-at-spec : {M : Type 1} → statement M
 segment-entry-at-spec =
-    tie.close (tie.spec (λ c κs. search needs) (λ c. search needs) (λ c. search needs) mul-sum-2 (λ c κs. search needs) returns)
+    tie.close (tie.spec (λ c κs. search needs) (λ c. search needs) (λ c. search needs) mul-sum-2
+    (λ c κs. search needs) returns)

@@ -25,7 +25,14 @@ returns-4 c = λ m. simp (c .format4 .ensures, c .before .if4 .taken)
 
 returns-5 : tie.Need-returns-5
 unfolding seen formatOf stopIf _>>=_
-returns-5 c = λ m. simp (ne-eqb _ _ (c .before .before .before .if1 .left), ne-eqb _ _ (c .before .before .if2 .left), ne-eqb _ _ (c .before .if3 .left), ne-eqb _ _ (c .if4 .left))
+returns-5 c =
+    let at-if2 = c .before .before in
+    λ m. simp (
+      ne-eqb _ _ (at-if2 .before .if1 .left),
+      ne-eqb _ _ (at-if2 .if2 .left),
+      ne-eqb _ _ (c .before .if3 .left),
+      ne-eqb _ _ (c .if4 .left),
+    )
 
 pub format-of-spec : {M : Type 1} → statement M
 format-of-spec =

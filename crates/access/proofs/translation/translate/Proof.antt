@@ -14,61 +14,91 @@ Here c =
     Left (machine (a .storage .now) (a .keys .now)) (translate (a .cr0) (a .cr1) (a .at))
 
 -- step 1: the format
-abbrev formed : (c : tie.After-known-told) → Here (c .before .before .before .before .before .before)
+abbrev formed : (c : tie.After-known-told)
+    → let start = c .before .before .before .before .before .before in
+    Here start
 unfolding translate
 formed c =
-    let a = c .before .before .before .before .before .before .args in
+    let at-format-of = c .before .before .before in
+    let start = at-format-of .before .before .before in
+    let a = start .args in
     let m = machine (a .storage .now) (a .keys .now) in (
       _,
       _,
       _,
       goes _ _ (begin m (translate (a .cr0) (a .cr1) (a .at)))
-          (ap (λ r. formatted r m) (sym (c .before .format .given .1)) ∙ fresh _ _ (c .before .before .before .format-of .ensures m)),
+          (ap (λ r. formatted r m) (sym (c .before .format .given .1)) ∙ fresh _ _
+          (at-format-of .format-of .ensures m)),
     )
 
 -- what the walk to the segment entry says
 segment-told : (c : tie.After-excepted)
-    → let a = c .before .before .before .before .before .before .before .before .before .before .before .args in
+    → let at-segment-entry = c .before .before .before in
+    let at-format = at-segment-entry .before .before .before in
+    let start = at-format .before .before .before .before .before in
+    let a = start .args in
     let m = machine (a .storage .now) (a .keys .now) in
-    told (c .excepted .result) (a .storage .now) (c .before .before .before .segment-entry .last .1 .0)
-    ≡ more 0 (seen (segmentEntry (segmentException (a .at)) (c .before .before .before .before .before .before .format .given .0 .0) (a .cr1) (a .at)) m)
+    told (c .excepted .result) (a .storage .now) (at-segment-entry .segment-entry .last .1 .0)
+    ≡ more 0 (seen (segmentEntry (segmentException (a .at)) (at-format .format .given .0 .0) (a .cr1) (a .at)) m)
 segment-told c =
-    let a = c .before .before .before .before .before .before .before .before .before .before .before .args in
-    fresh _ _ (ap (λ r. told r (a .storage .now) (c .before .before .before .segment-entry .last .1 .0)) (c .excepted .ensures)
-    ∙ c .before .before .before .segment-entry .ensures (segmentException (a .at)))
+    let at-segment-entry = c .before .before .before in
+    let start = at-segment-entry .before .before .before .before .before .before .before .before in
+    let a = start .args in
+    fresh _ _ (ap (λ r. told r (a .storage .now) (at-segment-entry .segment-entry .last .1 .0)) (c .excepted .ensures)
+    ∙ at-segment-entry .segment-entry .ensures (segmentException (a .at)))
 
 -- steps 2 to 4
-abbrev found : (c : tie.After-known-told2) → Here (c .before .before .before .before .before .before .before .before .before .before .before .before .before .before)
+abbrev found : (c : tie.After-known-told2)
+    → let at-match = c .before .before .before .before .before .before .before .before .before .before in
+    let start = at-match .before .before .before .before in
+    Here start
 unfolding translate formed
-found c = (
-  _,
-  _,
-  _,
-  step (c .before .before .before .excepted .result) (c .before .before .before .before .before .before .before .before .before .before .before .before .before .before .args .storage .now) (c .before .before .before .before .before .before .segment-entry .last .1 .0) _ _ (formed (c .before .before .before .before .before .before .before .before) .3)
-      (segment-told (c .before .before .before)) (c .before .segment .given .1),
-)
+found c =
+    let at-excepted = c .before .before .before in
+    let at-segment-entry = at-excepted .before .before .before in
+    let at-known-told = at-segment-entry .before .before in
+    let start = at-known-told .before .before .before .before .before .before in (
+      _,
+      _,
+      _,
+      step (at-excepted .excepted .result) (start .args .storage .now) (at-segment-entry .segment-entry .last .1 .0) _ _
+          (formed at-known-told .3)
+          (segment-told at-excepted) (c .before .segment .given .1),
+    )
 
 returns : tie.Need-returns
 unfolding translate
 returns c =
-    let a = c .before .before .before .before .before .args in
+    let at-format-of = c .before .before in
+    let start = at-format-of .before .before .before in
+    let a = start .args in
     let m = machine (a .storage .now) (a .keys .now) in
     ends _ _ (begin m (translate (a .cr0) (a .cr1) (a .at)))
-    (ap (λ r. formatted r m) (sym (c .enum-told .given .1)) ∙ fresh _ _ (c .before .before .format-of .ensures m))
+    (ap (λ r. formatted r m) (sym (c .enum-told .given .1)) ∙ fresh _ _ (at-format-of .format-of .ensures m))
 
 returns-2 : tie.Need-returns-2
 unfolding translate formed
 returns-2 c =
-    hands (c .before .before .excepted .result) (c .before .before .before .before .before .before .before .before .before .before .before .before .before .args .storage .now) (c .before .before .before .before .before .segment-entry .last .1 .0) _ _ (formed (c .before .before .before .before .before .before .before) .3)
-    (segment-told (c .before .before)) (c .enum-told2 .given .1)
+    let at-excepted = c .before .before in
+    let at-segment-entry = at-excepted .before .before .before in
+    let at-known-told = at-segment-entry .before .before in
+    let start = at-known-told .before .before .before .before .before .before in
+    hands (at-excepted .excepted .result) (start .args .storage .now)
+    (at-segment-entry .segment-entry .last .1 .0) _ _ (formed at-known-told .3)
+    (segment-told at-excepted) (c .enum-told2 .given .1)
 
 returns-3 : tie.Need-returns-3
 unfolding translate formed found
 returns-3 c =
-    let s = c .before .before .before .before .before .before .before .before .before .before .before .before .before .before .before .before .before .before .before .args .storage .now in
-    let ks = c .before .before .before .page-address .last .1 .0 in
-    last (c .after .result) s ks _ (found (c .before .before .before .before .before) .3)
-    (waited (c .before .before .before .page-address .result) (c .after .result) _ s ks _ _ (c .after .ensures) (c .before .before .before .page-address .ensures))
+    let at-page-address = c .before .before .before in
+    let at-known-told2 = at-page-address .before .before in
+    let at-match = at-known-told2 .before .before .before .before .before .before .before .before .before .before in
+    let start = at-match .before .before .before .before in
+    let s = start .args .storage .now in
+    let ks = at-page-address .page-address .last .1 .0 in
+    last (c .after .result) s ks _ (found at-known-told2 .3)
+    (waited (at-page-address .page-address .result) (c .after .result) _ s ks _ _ (c .after .ensures)
+    (at-page-address .page-address .ensures))
 
 pub translate-spec : {M : Type 1} → statement M
 translate-spec =

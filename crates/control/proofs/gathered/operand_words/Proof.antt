@@ -26,34 +26,57 @@ abbrev μ-loop : tie.MeasureT-loop
 
 loop-holds : tie.Need-loop-holds Inv-loop μ-loop
 loop-holds c =
-    let a = c .before .before .args in
-    (omega arith, refl, refl, simp sub-zero (begin (machine (a .storage .now) (a .keys .now)) (operandWords (a .guest) (a .address) (a .n))))
+    let start = c .before .before in
+    let a = start .args in (
+      omega arith,
+      refl,
+      refl,
+      simp sub-zero
+          (begin (machine (a .storage .now) (a .keys .now)) (operandWords (a .guest) (a .address) (a .n))),
+    )
 
 same-length : tie.Need-same-length Inv-loop μ-loop
-same-length c = c .before .before .before .before .before .store-test .kept .1 .0 ∙ c .before .before .before .before .before .before .before .before .loop .inv .2
+same-length c =
+    let at-store-test = c .before .before .before .before .before in
+    let at-loop = at-store-test .before .before .before in
+    at-store-test .store-test .kept .1 .0 ∙ at-loop .loop .inv .2
 
 returns : tie.Need-returns Inv-loop μ-loop
 returns c =
-    let a = c .before .before .before .before .before .before .before .before .before .before .before .args in
-    let l = c .before .before .before .before .before .before .before .before .loop in
+    let at-after = c .before .before in
+    let at-store-test = at-after .before .before .before in
+    let at-loop-test = at-store-test .before .before in
+    let start = at-loop-test .before .before .before .before in
+    let a = start .args in
+    let l = at-loop-test .before .loop in
     let s = a .storage .now in
-    let ks = c .before .before .before .before .before .store-test .last .1 .0 in (
-      halted _ _ (a .n) (l .i) (l .at) (l .words) (l .inv .3) (c .before .before .before .before .before .before .before .loop-test .taken) (c .before .before .after .result) s ks
-          (waited (c .before .before .before .before .before .store-test .result) (c .before .before .after .result) _ s ks _ _ (c .before .before .after .ensures) (c .before .before .before .before .before .store-test .ensures)) (c .enum-told .given .1),
+    let ks = at-store-test .store-test .last .1 .0 in (
+      halted _ _ (a .n) (l .i) (l .at) (l .words) (l .inv .3) (at-loop-test .loop-test .taken)
+          (at-after .after .result) s ks
+          (waited (at-store-test .store-test .result) (at-after .after .result) _ s ks _ _
+          (at-after .after .ensures) (at-store-test .store-test .ensures)) (c .enum-told .given .1),
       l .inv .1,
     )
 
 loop-again : tie.Need-loop-again Inv-loop μ-loop
 loop-again c =
-    let a = c .before .before .before .before .before .before .before .before .before .before .before .before .before .args in
-    let l = c .before .before .before .before .before .before .before .before .before .before .loop in
+    let at-tested = c .before .before in
+    let at-after = at-tested .before .before in
+    let at-store-test = at-after .before .before .before in
+    let at-loop-test = at-store-test .before .before in
+    let start = at-loop-test .before .before .before .before in
+    let a = start .args in
+    let l = at-loop-test .before .loop in
     let s = a .storage .now in
-    let ks = c .before .before .before .before .before .before .before .store-test .last .1 .0 in (
+    let ks = at-store-test .store-test .last .1 .0 in (
       omega arith,
       simp length-set (l .inv .1),
-      c .before .before .before .before .before .before .before .store-test .kept .1 .0 ∙ l .inv .2,
-      rw (c .sum .ensures) (turn _ _ (a .n) (l .i) (l .at) (l .words) (l .inv .3) (c .before .before .before .before .before .before .before .before .before .loop-test .taken) (c .before .before .before .before .after .result) s ks
-          (waited (c .before .before .before .before .before .before .before .store-test .result) (c .before .before .before .before .after .result) _ s ks _ _ (c .before .before .before .before .after .ensures) (c .before .before .before .before .before .before .before .store-test .ensures)) (omega arith) (c .before .before .tested .given .1)),
+      at-store-test .store-test .kept .1 .0 ∙ l .inv .2,
+      rw (c .sum .ensures) (turn _ _ (a .n) (l .i) (l .at) (l .words) (l .inv .3) (at-loop-test .loop-test .taken)
+          (at-after .after .result) s ks
+          (waited (at-store-test .store-test .result) (at-after .after .result) _ s ks _ _
+          (at-after .after .ensures) (at-store-test .store-test .ensures)) (omega arith)
+          (at-tested .tested .given .1)),
     )
 
 same-length-2 : tie.Need-same-length-2 Inv-loop μ-loop

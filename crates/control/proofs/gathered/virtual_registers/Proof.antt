@@ -27,36 +27,59 @@ abbrev μ-loop : tie.MeasureT-loop
 
 loop-holds : tie.Need-loop-holds Inv-loop μ-loop
 loop-holds c =
-    let a = c .before .before .args in
-    (omega arith, refl, omega arith, refl, simp sub-zero (begin (machine (a .storage .now) (a .keys .now)) (virtualRegisters (a .ecblok) (a .first) (a .n))))
+    let start = c .before .before in
+    let a = start .args in (
+      omega arith,
+      refl,
+      omega arith,
+      refl,
+      simp sub-zero (begin (machine (a .storage .now) (a .keys .now)) (virtualRegisters (a .ecblok) (a .first) (a .n))),
+    )
 
 same-length : tie.Need-same-length Inv-loop μ-loop
-same-length c = c .before .before .before .before .before .control-word .kept .1 .0 ∙ c .before .before .before .before .before .before .before .before .before .loop .inv .3
+same-length c =
+    let at-control-word = c .before .before .before .before .before in
+    let at-loop = at-control-word .before .before .before .before in
+    at-control-word .control-word .kept .1 .0 ∙ at-loop .loop .inv .3
 
 returns : tie.Need-returns Inv-loop μ-loop
 returns c =
-    let a = c .before .before .before .before .before .before .before .before .before .before .before .before .args in
-    let l = c .before .before .before .before .before .before .before .before .before .loop in
+    let at-after = c .before .before in
+    let at-control-word = at-after .before .before .before in
+    let at-sum = at-control-word .before .before in
+    let at-loop = at-sum .before .before in
+    let start = at-loop .before .before .before in
+    let a = start .args in
+    let l = at-loop .loop in
     let s = a .storage .now in
-    let ks = c .before .before .before .before .before .control-word .last .1 .0 in (
-      halted _ _ (a .n) (l .i) (l .r) (l .words) (l .inv .4) (c .before .before .before .before .before .before .before .before .loop-test .taken) (c .before .before .after .result) s ks
-          (waited (c .before .before .before .before .before .control-word .result) (c .before .before .after .result) _ s ks _ _ (c .before .before .after .ensures) (simp (c .before .before .before .before .before .before .before .sum .ensures) at (c .before .before .before .before .before .control-word .ensures)))
+    let ks = at-control-word .control-word .last .1 .0 in (
+      halted _ _ (a .n) (l .i) (l .r) (l .words) (l .inv .4) (at-sum .before .loop-test .taken)
+          (at-after .after .result) s ks
+          (waited (at-control-word .control-word .result) (at-after .after .result) _ s ks _ _
+          (at-after .after .ensures) (simp (at-sum .sum .ensures) at (at-control-word .control-word .ensures)))
           (c .enum-told .given .1),
       l .inv .1,
     )
 
 loop-again : tie.Need-loop-again Inv-loop μ-loop
 loop-again c =
-    let a = c .before .before .before .before .before .before .before .before .before .before .before .before .before .args in
-    let l = c .before .before .before .before .before .before .before .before .before .before .loop in
+    let at-after = c .before .before .before in
+    let at-control-word = at-after .before .before .before in
+    let at-sum = at-control-word .before .before in
+    let at-loop = at-sum .before .before in
+    let start = at-loop .before .before .before in
+    let a = start .args in
+    let l = at-loop .loop in
     let s = a .storage .now in
-    let ks = c .before .before .before .before .before .before .control-word .last .1 .0 in (
+    let ks = at-control-word .control-word .last .1 .0 in (
       omega arith,
       simp length-set (l .inv .1),
       omega arith,
-      c .before .before .before .before .before .before .control-word .kept .1 .0 ∙ l .inv .3,
-      turn _ _ (a .n) (l .i) (l .r) (l .words) (l .inv .4) (c .before .before .before .before .before .before .before .before .before .loop-test .taken) (c .before .before .before .after .result) s ks
-          (waited (c .before .before .before .before .before .before .control-word .result) (c .before .before .before .after .result) _ s ks _ _ (c .before .before .before .after .ensures) (simp (c .before .before .before .before .before .before .before .before .sum .ensures) at (c .before .before .before .before .before .before .control-word .ensures)))
+      at-control-word .control-word .kept .1 .0 ∙ l .inv .3,
+      turn _ _ (a .n) (l .i) (l .r) (l .words) (l .inv .4) (at-sum .before .loop-test .taken)
+          (at-after .after .result) s ks
+          (waited (at-control-word .control-word .result) (at-after .after .result) _ s ks _ _
+          (at-after .after .ensures) (simp (at-sum .sum .ensures) at (at-control-word .control-word .ensures)))
           (omega arith) (c .before .fetched .given .1),
     )
 

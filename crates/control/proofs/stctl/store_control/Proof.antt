@@ -17,59 +17,113 @@ abbrev Here : tie.Start → Type 0
 Here c = let a = c .args in Left (machine (a .storage .now) (a .keys .now)) (storeControl (a .call))
 
 -- steps 1 and 2
-abbrev block : (c : tie.After-known-told) → Here (c .before .before .before .before .before .before .before .before .before .before .before)
+abbrev block : (c : tie.After-known-told)
+    → let at-slice-known = c .before .before .before .before .before .before .before .before .before .before in
+    Here (at-slice-known .before)
 unfolding storeControl
 block c =
-    let a = c .before .before .before .before .before .before .before .before .before .before .before .args in
+    let at-control-block = c .before .before .before .before .before in
+    let start = at-control-block .before .before .before .before .before .before in
+    let a = start .args in
     let m = machine (a .storage .now) (a .keys .now) in (
       _,
       _,
       _,
-      step (c .before .before .before .before .before .control-block .result) (a .storage .now) (c .before .before .before .before .before .control-block .last .1 .0) _ _ (begin m (storeControl (a .call)))
-          (fresh _ _ (c .before .before .before .before .before .control-block .ensures)) (c .before .block .given .1),
+      step (at-control-block .control-block .result) (a .storage .now)
+          (at-control-block .control-block .last .1 .0) _ _ (begin m (storeControl (a .call)))
+          (fresh _ _ (at-control-block .control-block .ensures)) (c .before .block .given .1),
     )
 
 -- steps 3 and 4
-abbrev operand : (c : tie.After-known-told2) → Here (c .before .before .before .before .before .before .before .before .before .before .before .before .before .before .before .before .before .before .before .before)
+abbrev operand : (c : tie.After-known-told2)
+    → let at-block = c .before .before .before .before .before .before .before .before .before .before in
+    let start = at-block .before .before .before .before .before .before .before .before .before .before in
+    Here start
 unfolding storeControl block
 operand c =
-    let s = c .before .before .before .before .before .before .before .before .before .before .before .before .before .before .before .before .before .before .before .before .args .storage .now in
-    let ks = c .before .before .before .before .before .before .word-operand .last .1 .0 in (
+    let at-after = c .before .before .before in
+    let at-word-operand = at-after .before .before .before in
+    let at-known-told = at-word-operand .before .before .before in
+    let at-slice-known =
+    at-known-told .before .before .before .before .before .before .before .before .before .before in
+    let s = at-slice-known .before .args .storage .now in
+    let ks = at-word-operand .word-operand .last .1 .0 in (
       _,
       _,
       _,
-      step (c .before .before .before .after .result) s ks _ _ (block (c .before .before .before .before .before .before .before .before .before) .3)
-          (waited (c .before .before .before .before .before .before .word-operand .result) (c .before .before .before .after .result) _ s ks _ _ (c .before .before .before .after .ensures) (c .before .before .before .before .before .before .word-operand .ensures)) (c .before .operand .given .1),
+      step (at-after .after .result) s ks _ _ (block at-known-told .3)
+          (waited (at-word-operand .word-operand .result) (at-after .after .result) _ s ks _ _
+          (at-after .after .ensures) (at-word-operand .word-operand .ensures)) (c .before .operand .given .1),
     )
 
 -- how many registers
-counted : (c : tie.After-register-count) → let call = c .before .before .before .before .before .before .before .before .before .before .before .before .before .before .before .before .before .before .before .before .before .before .before .args .call in c .register-count .result ≡ registerCount (r1 call) (r3 call)
-counted c = simp (c .before .before .r1 .ensures, c .before .r2 .ensures) at (c .register-count .ensures .0)
+counted : (c : tie.After-register-count)
+    → let at-word-operand-arg2 = c .before .before .before .before .before .before .before .before .before .before in
+    let at-guest =
+    at-word-operand-arg2 .before .before .before .before .before .before .before .before .before .before in
+    let start = at-guest .before .before .before in
+    let call = start .args .call in c .register-count .result ≡ registerCount (r1 call) (r3 call)
+counted c =
+    let at-r1 = c .before .before in
+    simp (at-r1 .r1 .ensures, c .before .r2 .ensures) at (c .register-count .ensures .0)
 
 -- step 5: the registers
-abbrev registers : (c : tie.After-known-told3) → Here (c .before .before .before .before .before .before .before .before .before .before .before .before .before .before .before .before .before .before .before .before .before .before .before .before .before .before .before .before .before .before .before .before)
+abbrev registers : (c : tie.After-known-told3)
+    → let at-r2 = c .before .before .before .before .before .before .before .before .before .before in
+    let at-word-operand-arg = at-r2 .before .before .before .before .before .before .before .before .before .before in
+    let at-slice-known2 =
+    at-word-operand-arg .before .before .before .before .before .before .before .before .before .before in
+    let start = at-slice-known2 .before .before in
+    Here start
 unfolding storeControl block operand
 registers c =
-    let call = c .before .before .before .before .before .before .before .before .before .before .before .before .before .before .before .before .before .before .before .before .before .before .before .before .before .before .before .before .before .before .before .before .args .call in
-    let f = simp (counted (c .before .before .before .before .before .before .before .before .before), c .before .before .before .before .before .before .before .before .before .before .before .r1 .ensures) at (c .before .before .before .before .before .before .virtual-registers .ensures .0) in (
+    let at-after2 = c .before .before .before in
+    let at-virtual-registers = at-after2 .before .before .before in
+    let at-register-count = at-virtual-registers .before .before .before in
+    let at-r1 = at-register-count .before .before in
+    let at-known-told = at-r1 .before .before .before .before .before .before .before .before .before .before in
+    let at-slice-known =
+    at-known-told .before .before .before .before .before .before .before .before .before .before in
+    let call = at-slice-known .before .args .call in
+    let f = simp (counted at-register-count, at-r1 .r1 .ensures) at
+    (at-virtual-registers .virtual-registers .ensures .0) in (
       _,
       _,
       _,
-      has-words _ _ (registerCount (r1 call) (r3 call)) (c .before .before .before .before .before .before .virtual-registers .result) (c .before .before .before .after2 .result) (c .before .before .before .before .before .before .before .before .before .before .before .before .before .before .before .before .before .before .before .before .before .before .before .before .before .before .before .before .before .before .before .before .args .storage .now)
-          (c .before .before .before .before .before .before .virtual-registers .last .1 .0) (operand (c .before .before .before .before .before .before .before .before .before .before .before .before) .3) f (c .before .before .before .after2 .ensures) (c .before .last .given .1),
+      has-words _ _ (registerCount (r1 call) (r3 call)) (at-virtual-registers .virtual-registers .result)
+          (at-after2 .after2 .result) (at-slice-known .before .args .storage .now)
+          (at-virtual-registers .virtual-registers .last .1 .0) (operand (at-r1 .before) .3) f
+          (at-after2 .after2 .ensures) (c .before .last .given .1),
     )
 
 -- and the operand words
-abbrev words : (c : tie.After-known-told4) → Here (c .before .before .before .before .before .before .before .before .before .before .before .before .before .before .before .before .before .before .before .before .before .before .before .before .before .before .before .before .before .before .before .before .before .before .before .before .before .before .before .before .before)
+abbrev words : (c : tie.After-known-told4)
+    → let at-last = c .before .before .before .before .before .before .before .before .before .before in
+    let at-r1 = at-last .before .before .before .before .before .before .before .before .before .before in
+    let at-known-told = at-r1 .before .before .before .before .before .before .before .before .before .before in
+    let at-slice-known =
+    at-known-told .before .before .before .before .before .before .before .before .before .before in
+    Here (at-slice-known .before)
 unfolding storeControl block operand registers
 words c =
-    let call = c .before .before .before .before .before .before .before .before .before .before .before .before .before .before .before .before .before .before .before .before .before .before .before .before .before .before .before .before .before .before .before .before .before .before .before .before .before .before .before .before .before .args .call in
-    let f = simp (counted (c .before .before .before .before .before .before .before .before .before .before .before .before .before .before .before .before .before .before)) at (c .before .before .before .before .before .before .operand-words .ensures .0) in (
+    let at-after3 = c .before .before .before in
+    let at-operand-words = at-after3 .before .before .before in
+    let at-known-told3 = at-operand-words .before .before .before in
+    let at-register-count = at-known-told3 .before .before .before .before .before .before .before .before .before in
+    let at-word-operand-arg2 =
+    at-register-count .before .before .before .before .before .before .before .before .before .before in
+    let at-guest =
+    at-word-operand-arg2 .before .before .before .before .before .before .before .before .before .before in
+    let start = at-guest .before .before .before in
+    let call = start .args .call in
+    let f = simp (counted at-register-count) at (at-operand-words .operand-words .ensures .0) in (
       _,
       _,
       _,
-      has-words _ _ (registerCount (r1 call) (r3 call)) (c .before .before .before .before .before .before .operand-words .result) (c .before .before .before .after3 .result) (c .before .before .before .before .before .before .before .before .before .before .before .before .before .before .before .before .before .before .before .before .before .before .before .before .before .before .before .before .before .before .before .before .before .before .before .before .before .before .before .before .before .args .storage .now)
-          (c .before .before .before .before .before .before .operand-words .last .1 .0) (registers (c .before .before .before .before .before .before .before .before .before) .3) f (c .before .before .before .after3 .ensures) (c .before .end .given .1),
+      has-words _ _ (registerCount (r1 call) (r3 call)) (at-operand-words .operand-words .result)
+          (at-after3 .after3 .result) (start .args .storage .now)
+          (at-operand-words .operand-words .last .1 .0) (registers at-known-told3 .3) f
+          (at-after3 .after3 .ensures) (c .before .end .given .1),
     )
 
 -- as many stores as registers
@@ -85,65 +139,139 @@ stored c reals values h k =
 returns : tie.Need-returns
 unfolding storeControl
 returns c =
-    let a = c .before .before .before .before .before .before .before .before .before .before .before .args in
+    let at-control-block = c .before .before .before .before .before in
+    let start = at-control-block .before .before .before .before .before .before in
+    let a = start .args in
     let s = a .storage .now in
-    let ks = c .before .before .before .before .before .control-block .last .1 .0 in
-    ended-by (a .call .guest) (c .ending .result) s ks (c .before .before .before .before .before .control-block .result) (c .ending .ensures) (c .before .enum-told .given .1)
-    (halts (c .before .before .before .before .before .control-block .result) s ks _ _ (begin (machine s (a .keys .now)) (storeControl (a .call))) (fresh _ _ (c .before .before .before .before .before .control-block .ensures)) (c .before .enum-told .given .1))
+    let ks = at-control-block .control-block .last .1 .0 in
+    ended-by (a .call .guest) (c .ending .result) s ks (at-control-block .control-block .result)
+    (c .ending .ensures) (c .before .enum-told .given .1)
+    (halts (at-control-block .control-block .result) s ks _ _
+    (begin (machine s (a .keys .now)) (storeControl (a .call)))
+    (fresh _ _ (at-control-block .control-block .ensures)) (c .before .enum-told .given .1))
 
 returns-2 : tie.Need-returns-2
 unfolding storeControl block
 returns-2 c =
-    let a = c .before .before .before .before .before .before .before .before .before .before .before .before .before .before .before .before .before .before .before .before .args in
+    let at-after = c .before .before .before in
+    let at-word-operand = at-after .before .before .before in
+    let at-known-told = at-word-operand .before .before .before in
+    let at-slice-known =
+    at-known-told .before .before .before .before .before .before .before .before .before .before in
+    let a = at-slice-known .before .args in
     let s = a .storage .now in
-    let ks = c .before .before .before .before .before .before .word-operand .last .1 .0 in
-    ended-by (a .call .guest) (c .ending2 .result) s ks (c .before .before .before .after .result) (c .ending2 .ensures) (c .before .enum-told2 .given .1)
-    (halts (c .before .before .before .after .result) s ks _ _ (block (c .before .before .before .before .before .before .before .before .before) .3)
-    (waited (c .before .before .before .before .before .before .word-operand .result) (c .before .before .before .after .result) _ s ks _ _ (c .before .before .before .after .ensures) (c .before .before .before .before .before .before .word-operand .ensures)) (c .before .enum-told2 .given .1))
+    let ks = at-word-operand .word-operand .last .1 .0 in
+    ended-by (a .call .guest) (c .ending2 .result) s ks (at-after .after .result) (c .ending2 .ensures)
+    (c .before .enum-told2 .given .1)
+    (halts (at-after .after .result) s ks _ _ (block at-known-told .3)
+    (waited (at-word-operand .word-operand .result) (at-after .after .result) _ s ks _ _ (at-after .after .ensures)
+    (at-word-operand .word-operand .ensures)) (c .before .enum-told2 .given .1))
 
 same-length-6 : tie.Need-same-length-6
-same-length-6 c = c .before .before .before .before .before .before .virtual-registers .kept .1 .0 ∙ c .before .before .before .before .before .before .before .before .before .before .before .before .before .before .before .before .before .before .word-operand .kept .1 .0 ∙ c .before .before .before .before .before .before .before .before .before .before .before .before .before .before .before .before .before .before .before .before .before .before .before .before .before .before .control-block .kept .1 .0
+same-length-6 c =
+    let at-virtual-registers = c .before .before .before .before .before .before in
+    let at-slice-known4 =
+    at-virtual-registers .before .before .before .before .before .before .before .before .before .before in
+    let at-word-operand = at-slice-known4 .before .before in
+    let at-control-block = at-word-operand .before .before .before .before .before .before .before .before in
+    at-virtual-registers .virtual-registers .kept .1 .0 ∙ at-word-operand .word-operand .kept .1 .0
+    ∙ at-control-block .control-block .kept .1 .0
 
 returns-3 : tie.Need-returns-3
 unfolding storeControl block operand
 returns-3 c =
-    let a = c .before .before .before .before .before .before .before .before .before .before .before .before .before .before .before .before .before .before .before .before .before .before .before .before .before .before .before .before .before .before .before .before .args in
+    let at-after2 = c .before .before .before in
+    let at-virtual-registers = at-after2 .before .before .before in
+    let at-register-count = at-virtual-registers .before .before .before in
+    let at-r1 = at-register-count .before .before in
+    let at-known-told = at-r1 .before .before .before .before .before .before .before .before .before .before in
+    let at-slice-known =
+    at-known-told .before .before .before .before .before .before .before .before .before .before in
+    let a = at-slice-known .before .args in
     let s = a .storage .now in
-    let ks = c .before .before .before .before .before .before .virtual-registers .last .1 .0 in
+    let ks = at-virtual-registers .virtual-registers .last .1 .0 in
     let n = registerCount (r1 (a .call)) (r3 (a .call)) in
-    let f = simp (counted (c .before .before .before .before .before .before .before .before .before), c .before .before .before .before .before .before .before .before .before .before .before .r1 .ensures) at (c .before .before .before .before .before .before .virtual-registers .ensures .0) in
-    ended-by (a .call .guest) (c .ending3 .result) s ks (c .before .before .before .after2 .result) (c .ending3 .ensures) (c .before .enum-told3 .given .1)
-    (no-words _ _ n (c .before .before .before .before .before .before .virtual-registers .result) (c .before .before .before .after2 .result) s ks (operand (c .before .before .before .before .before .before .before .before .before .before .before .before) .3) f (c .before .before .before .after2 .ensures) (c .before .enum-told3 .given .1))
+    let f = simp (counted at-register-count, at-r1 .r1 .ensures) at
+    (at-virtual-registers .virtual-registers .ensures .0) in
+    ended-by (a .call .guest) (c .ending3 .result) s ks (at-after2 .after2 .result) (c .ending3 .ensures)
+    (c .before .enum-told3 .given .1)
+    (no-words _ _ n (at-virtual-registers .virtual-registers .result) (at-after2 .after2 .result) s ks
+    (operand (at-r1 .before) .3) f (at-after2 .after2 .ensures) (c .before .enum-told3 .given .1))
 
 same-length-8 : tie.Need-same-length-8
-same-length-8 c = c .before .before .before .before .before .before .operand-words .kept .1 .0 ∙ c .before .before .before .before .before .before .before .before .before .before .before .before .before .before .before .virtual-registers .kept .1 .0 ∙ c .before .before .before .before .before .before .before .before .before .before .before .before .before .before .before .before .before .before .before .before .before .before .before .before .before .before .before .word-operand .kept .1 .0 ∙ c .before .before .before .before .before .before .before .before .before .before .before .before .before .before .before .before .before .before .before .before .before .before .before .before .before .before .before .before .before .before .before .before .before .before .before .control-block .kept .1 .0
+same-length-8 c =
+    let at-operand-words = c .before .before .before .before .before .before in
+    let at-virtual-registers =
+    at-operand-words .before .before .before .before .before .before .before .before .before in
+    let at-slice-known4 =
+    at-virtual-registers .before .before .before .before .before .before .before .before .before .before in
+    let at-word-operand = at-slice-known4 .before .before in
+    let at-control-block = at-word-operand .before .before .before .before .before .before .before .before in
+    at-operand-words .operand-words .kept .1 .0 ∙ at-virtual-registers .virtual-registers .kept .1 .0
+    ∙ at-word-operand .word-operand .kept .1 .0 ∙ at-control-block .control-block .kept .1 .0
 
 returns-4 : tie.Need-returns-4
 unfolding storeControl block operand registers
 returns-4 c =
-    let a = c .before .before .before .before .before .before .before .before .before .before .before .before .before .before .before .before .before .before .before .before .before .before .before .before .before .before .before .before .before .before .before .before .before .before .before .before .before .before .before .before .before .args in
+    let at-after3 = c .before .before .before in
+    let at-operand-words = at-after3 .before .before .before in
+    let at-known-told3 = at-operand-words .before .before .before in
+    let at-register-count = at-known-told3 .before .before .before .before .before .before .before .before .before in
+    let at-word-operand-arg2 =
+    at-register-count .before .before .before .before .before .before .before .before .before .before in
+    let at-guest =
+    at-word-operand-arg2 .before .before .before .before .before .before .before .before .before .before in
+    let start = at-guest .before .before .before in
+    let a = start .args in
     let s = a .storage .now in
-    let ks = c .before .before .before .before .before .before .operand-words .last .1 .0 in
+    let ks = at-operand-words .operand-words .last .1 .0 in
     let n = registerCount (r1 (a .call)) (r3 (a .call)) in
-    let f = simp (counted (c .before .before .before .before .before .before .before .before .before .before .before .before .before .before .before .before .before .before)) at (c .before .before .before .before .before .before .operand-words .ensures .0) in
-    ended-by (a .call .guest) (c .ending4 .result) s ks (c .before .before .before .after3 .result) (c .ending4 .ensures) (c .before .enum-told4 .given .1)
-    (no-words _ _ n (c .before .before .before .before .before .before .operand-words .result) (c .before .before .before .after3 .result) s ks (registers (c .before .before .before .before .before .before .before .before .before) .3) f (c .before .before .before .after3 .ensures) (c .before .enum-told4 .given .1))
+    let f = simp (counted at-register-count) at (at-operand-words .operand-words .ensures .0) in
+    ended-by (a .call .guest) (c .ending4 .result) s ks (at-after3 .after3 .result) (c .ending4 .ensures)
+    (c .before .enum-told4 .given .1)
+    (no-words _ _ n (at-operand-words .operand-words .result) (at-after3 .after3 .result) s ks
+    (registers at-known-told3 .3) f (at-after3 .after3 .ensures) (c .before .enum-told4 .given .1))
 
 same-length-10 : tie.Need-same-length-10
-same-length-10 c = c .before .before .before .before .before .store-words .kept .1 .0 ∙ c .before .before .before .before .before .before .before .before .before .before .before .before .before .before .before .before .operand-words .kept .1 .0 ∙ c .before .before .before .before .before .before .before .before .before .before .before .before .before .before .before .before .before .before .before .before .before .before .before .before .before .virtual-registers .kept .1 .0 ∙ c .before .before .before .before .before .before .before .before .before .before .before .before .before .before .before .before .before .before .before .before .before .before .before .before .before .before .before .before .before .before .before .before .before .before .before .before .before .word-operand .kept .1 .0 ∙ c .before .before .before .before .before .before .before .before .before .before .before .before .before .before .before .before .before .before .before .before .before .before .before .before .before .before .before .before .before .before .before .before .before .before .before .before .before .before .before .before .before .before .before .before .before .control-block .kept .1 .0
+same-length-10 c =
+    let at-store-words = c .before .before .before .before .before in
+    let at-keys4 = at-store-words .before .before .before .before .before .before .before .before .before .before in
+    let at-virtual-registers =
+    at-keys4 .before .before .before .before .before .before .before .before .before .before in
+    let at-slice-known4 =
+    at-virtual-registers .before .before .before .before .before .before .before .before .before .before in
+    let at-word-operand = at-slice-known4 .before .before in
+    let at-control-block = at-word-operand .before .before .before .before .before .before .before .before in
+    at-store-words .store-words .kept .1 .0 ∙ at-keys4 .before .operand-words .kept .1 .0
+    ∙ at-virtual-registers .virtual-registers .kept .1 .0 ∙ at-word-operand .word-operand .kept .1 .0
+    ∙ at-control-block .control-block .kept .1 .0
 
 returns-5 : tie.Need-returns-5
 unfolding storeControl block operand registers words
 returns-5 c =
-    let a = c .before .before .before .before .before .before .before .before .before .before .before .before .before .before .before .before .before .before .before .before .before .before .before .before .before .before .before .before .before .before .before .before .before .before .before .before .before .before .before .before .before .before .before .before .before .before .before .before .before .before .before .args in
+    let at-store-words = c .before .before .before .before .before in
+    let at-known-told4 = at-store-words .before .before .before .before .before in
+    let at-operand-words = at-known-told4 .before .before .before .before .before .before in
+    let at-virtual-registers =
+    at-operand-words .before .before .before .before .before .before .before .before .before in
+    let at-register-count = at-virtual-registers .before .before .before in
+    let at-word-operand-arg2 =
+    at-register-count .before .before .before .before .before .before .before .before .before .before in
+    let at-guest =
+    at-word-operand-arg2 .before .before .before .before .before .before .before .before .before .before in
+    let start = at-guest .before .before .before in
+    let a = start .args in
     let n = registerCount (r1 (a .call)) (r3 (a .call)) in
-    let reals = c .before .before .before .before .before .before .before .before .before .before .before .before .before .before .before .before .operand-words .result .words in
-    let values = c .before .before .before .before .before .before .before .before .before .before .before .before .before .before .before .before .before .before .before .before .before .before .before .before .before .virtual-registers .result .words in
-    let e = counted (c .before .before .before .before .before .before .before .before .before .before .before .before .before .before .before .before .before .before .before .before .before .before .before .before .before .before .before .before) in
-    let k = stored (c .before .before .before .before .before .before .before .before .before .before .before .before .before .before .before .before .before .before .before .before .before .before .before .before .before .before .before .before) reals values (c .before .before .before .before .before .before .before .before .before .before .before .before .before .before .before .before .operand-words .ensures .1) (c .before .before .before .before .before .before .before .before .before .before .before .before .before .before .before .before .before .before .before .before .before .before .before .before .before .virtual-registers .ensures .1) in
-    completes (a .call) (c .completed .result) (c .before .before .before .before .before .store-words .last .0) (c .before .before .before .before .before .store-words .last .1 .0) 4 _ (words (c .before .before .before .before .before .before .before .before .before .before) .3)
-    (c .completed .ensures ∙ ap (completion (a .call) 4 (c .before .before .before .before .before .before .before .before .before .before .before .end .given .0 .1 .0)) (sym k ∙ ap (λ n. length (wordStores (take n reals) (take n values))) e))
-    (simp e at (c .before .before .before .before .before .store-words .ensures))
+    let reals = at-operand-words .operand-words .result .words in
+    let values = at-virtual-registers .virtual-registers .result .words in
+    let e = counted at-register-count in
+    let k = stored at-register-count reals values (at-operand-words .operand-words .ensures .1)
+    (at-virtual-registers .virtual-registers .ensures .1) in
+    completes (a .call) (c .completed .result) (at-store-words .store-words .last .0)
+    (at-store-words .store-words .last .1 .0) 4 _ (words at-known-told4 .3)
+    (c .completed .ensures ∙ ap (completion (a .call) 4 (at-known-told4 .before .end .given .0 .1 .0))
+    (sym k ∙ ap (λ n. length (wordStores (take n reals) (take n values))) e))
+    (simp e at (at-store-words .store-words .ensures))
 
 pub store-control-spec : {M : Type 1} → statement M
 store-control-spec =

@@ -31,15 +31,20 @@ loop-holds c =
 
 loop-again : tie.Need-loop-again Inv-loop μ-loop
 loop-again c =
-    let a = c .before .before .before .before .before .before .before .before .before .before .before .args in
-    let l = c .before .before .before .before .before .before .before .before .loop in
+    let at-store-word = c .before .before .before .before in
+    let at-loop-test = at-store-word .before .before .before in
+    let start = at-loop-test .before .before .before .before in
+    let a = start .args in
+    let l = at-loop-test .before .loop in
     let inv = l .inv in (
       omega arith,
       inv .1,
       inv .2,
-      c .before .before .before .before .store-word .kept .0 ∙ inv .3,
-      c .before .before .before .before .store-word .kept .1 .0 ∙ inv .4,
-      rw (c .before .before .before .before .store-word .ensures) (word-turn (machine (l .storage) (l .keys)) _ (a .t3) (a .t4) (a .n) (l .i) (c .before .before .before .before .before .before .before .loop-test .taken) (inv .1) (inv .2) (inv .5)),
+      at-store-word .store-word .kept .0 ∙ inv .3,
+      at-store-word .store-word .kept .1 .0 ∙ inv .4,
+      rw (at-store-word .store-word .ensures)
+          (word-turn (machine (l .storage) (l .keys)) _ (a .t3) (a .t4) (a .n) (l .i) (at-loop-test .loop-test .taken)
+          (inv .1) (inv .2) (inv .5)),
     )
 
 same-length : tie.Need-same-length Inv-loop μ-loop
@@ -50,7 +55,8 @@ same-length-2 c = c .before .loop .inv .4
 
 returns : tie.Need-returns Inv-loop μ-loop
 returns c =
-    let a = c .before .before .before .before .args in
+    let start = c .before .before .before .before in
+    let a = start .args in
     let reals = take (a .n) (a .t3) in
     let k : length reals ≤ c .before .loop .i = rw length-take (omega arith) in
     simp (drop-of-length-le reals k) at (c .before .loop .inv .5)

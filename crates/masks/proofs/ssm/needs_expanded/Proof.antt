@@ -4,7 +4,16 @@ use Rattle.masks.proofs.ssm.needs_expanded.Statement.{statement}
 use Rattle.masks.proofs.ssm.needs_expanded.Tie as tie
 
 returns : tie.Need-returns
-returns c = simp (or-false, c .before .before .before .changes .ensures, c .before .before .changes2 .ensures, c .before .goes-up .ensures, c .goes-up2 .ensures)
+returns c =
+    let at-changes2 = c .before .before in
+    let at-changes2 = at-changes2 in
+    simp (
+      or-false,
+      at-changes2 .before .changes .ensures,
+      at-changes2 .changes2 .ensures,
+      c .before .goes-up .ensures,
+      c .goes-up2 .ensures,
+    )
 
 pub needs-expanded-spec : {M : Type 1} → statement M
 needs-expanded-spec =

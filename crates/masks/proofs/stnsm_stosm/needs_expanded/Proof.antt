@@ -4,18 +4,24 @@ use Rattle.masks.proofs.stnsm_stosm.needs_expanded.Statement.{statement
 use Rattle.masks.proofs.stnsm_stosm.needs_expanded.Tie as tie
 
 returns : tie.Need-returns
-returns c = simp (or-false, c .before .before .enum-told .given .1, c .before .goes-up .ensures, c .goes-up2 .ensures)
+returns c =
+    let at-enum-told = c .before .before in
+    let at-enum-told = at-enum-told in
+    simp (or-false, at-enum-told .enum-told .given .1, c .before .goes-up .ensures, c .goes-up2 .ensures)
 
 returns-2 : tie.Need-returns-2
 returns-2 c =
+    let at-goes-up7 = c .before .before in
+    let at-goes-up5 = at-goes-up7 .before .before in
+    let at-goes-up3 = at-goes-up5 .before .before in
     simp (
       or-false,
-      c .before .before .before .before .before .before .before .enum-told2 .given .1,
-      c .before .before .before .before .before .before .goes-up3 .ensures,
-      c .before .before .before .before .before .goes-up4 .ensures,
-      c .before .before .before .before .goes-up5 .ensures,
-      c .before .before .before .goes-up6 .ensures,
-      c .before .before .goes-up7 .ensures,
+      at-goes-up3 .before .enum-told2 .given .1,
+      at-goes-up3 .goes-up3 .ensures,
+      at-goes-up5 .before .goes-up4 .ensures,
+      at-goes-up5 .goes-up5 .ensures,
+      at-goes-up7 .before .goes-up6 .ensures,
+      at-goes-up7 .goes-up7 .ensures,
       c .before .goes-up8 .ensures,
       c .any-rises .ensures,
     )

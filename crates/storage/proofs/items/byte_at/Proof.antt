@@ -10,7 +10,9 @@ use Rattle.storage.proofs.items.byte_at.Tie as tie
 
 returns : tie.Need-returns
 unfolding itemAt
-returns c = (simp (lt-ltb _ _ (c .before .before .if1 .taken), c .wide .ensures .0) (ap some (omega arith)), c .wide .ensures .1)
+returns c =
+    let at-if1 = c .before .before in
+    (simp (lt-ltb _ _ (at-if1 .if1 .taken), c .wide .ensures .0) (ap some (omega arith)), c .wide .ensures .1)
 
 returns-2 : tie.Need-returns-2
 unfolding itemAt

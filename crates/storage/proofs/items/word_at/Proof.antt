@@ -9,24 +9,36 @@ returns c = simp (word-joined, ← c .before .before .halfword-at .ensures .0, c
 
 returns-2 : tie.Need-returns-2
 returns-2 c =
-    let l = c .before .before .before .before .before .before .before .halfword-at .ensures .0 in
-    let r = simp (c .before .before .before .sum .ensures) at (c .before .before .halfword-at2 .ensures .0) in
-    simp (word-joined, ← l, c .before .before .before .before .before .left .given .1, ← r, c .enum-told2 .given .1)
+    let at-halfword-at2 = c .before .before in
+    let at-left = at-halfword-at2 .before .before .before in
+    let at-halfword-at = at-left .before .before in
+    let l = at-halfword-at .halfword-at .ensures .0 in
+    let r = simp (at-halfword-at2 .before .sum .ensures) at (at-halfword-at2 .halfword-at2 .ensures .0) in
+    simp (word-joined, ← l, at-left .left .given .1, ← r, c .enum-told2 .given .1)
 
 mul-t7 : tie.Need-mul-t7
-mul-t7 c = omega (arith, below (c .before .before .before .before .before .before .left .given .1) (c .before .before .before .before .before .before .before .before .halfword-at .ensures .1))
+mul-t7 c =
+    let at-left = c .before .before .before .before .before .before in
+    let at-halfword-at = at-left .before .before in
+    omega (arith, below (at-left .left .given .1) (at-halfword-at .halfword-at .ensures .1))
 
 add-t8 : tie.Need-add-t8
 add-t8 c =
-    let l = below (c .before .before .before .before .before .before .left .given .1) (c .before .before .before .before .before .before .before .before .halfword-at .ensures .1) in
-    let r = below (c .before .right .given .1) (c .before .before .before .halfword-at2 .ensures .1) in
+    let at-halfword-at2 = c .before .before .before in
+    let at-left = at-halfword-at2 .before .before .before in
+    let at-halfword-at = at-left .before .before in
+    let l = below (at-left .left .given .1) (at-halfword-at .halfword-at .ensures .1) in
+    let r = below (c .before .right .given .1) (at-halfword-at2 .halfword-at2 .ensures .1) in
     omega arith
 
 returns-3 : tie.Need-returns-3
 returns-3 c =
-    let l = c .before .before .before .before .before .before .before .before .halfword-at .ensures .0 in
-    let r = simp (c .before .before .before .before .sum .ensures) at (c .before .before .before .halfword-at2 .ensures .0) in
-    simp (word-joined, ← l, c .before .before .before .before .before .before .left .given .1, ← r, c .before .right .given .1)
+    let at-halfword-at2 = c .before .before .before in
+    let at-left = at-halfword-at2 .before .before .before in
+    let at-halfword-at = at-left .before .before in
+    let l = at-halfword-at .halfword-at .ensures .0 in
+    let r = simp (at-halfword-at2 .before .sum .ensures) at (at-halfword-at2 .halfword-at2 .ensures .0) in
+    simp (word-joined, ← l, at-left .left .given .1, ← r, c .before .right .given .1)
 
 pub word-at-spec : {M : Type 1} → statement M
 word-at-spec =

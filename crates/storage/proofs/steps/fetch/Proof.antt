@@ -6,8 +6,11 @@ use Rattle.storage.proofs.steps.fetch.Tie as tie
 
 returns : tie.Need-returns
 returns c =
-    let a = c .before .before .before .before .before .before .before .args in
-    ap (λ r. told r (a .storage .now) (c .before .before .before .item .last .1 .0)) (c .fetched .ensures) ∙ c .before .before .before .item .ensures (a .missing)
+    let at-item = c .before .before .before in
+    let start = at-item .before .before .before .before in
+    let a = start .args in
+    ap (λ r. told r (a .storage .now) (at-item .item .last .1 .0)) (c .fetched .ensures) ∙ at-item .item .ensures
+    (a .missing)
 
 pub fetch-spec : {M : Type 1} → statement M
 fetch-spec = tie.close (tie.spec (λ c κs. search needs) (λ c κs. search needs) (λ c. search needs) returns)

@@ -6,8 +6,10 @@ use Rattle.storage.proofs.steps.item.Tie as tie
 
 returns : tie.Need-returns
 returns c =
-    let a = c .before .before .before .args in
-    λ e. fetches (c .item-at .result) (a .storage .now) (a .keys .now) (a .at) (bytesIn (a .width)) e (c .item-at .ensures)
+    let start = c .before .before .before in
+    let a = start .args in
+    λ e. fetches (c .item-at .result) (a .storage .now) (a .keys .now) (a .at) (bytesIn (a .width)) e
+    (c .item-at .ensures)
 
 pub item-spec : {M : Type 1} → statement M
 item-spec = tie.close (tie.spec (λ c κs. search needs) returns)

@@ -10,42 +10,57 @@ use Rattle.storage_key.proofs.tables.page_of.Tie as tie
 
 -- step 9: the entry
 abbrev entered : (c : tie.After-known-told)
-    → let a = c .before .before .before .before .before .before .before .before .before .before .args in Left (machine (a .storage .now) (a .keys .now)) (pageOf (a .format) (a .segment) (a .at))
+    → let start = c .before .before .before .before .before .before .before .before .before .before in
+    let a = start .args in Left (machine (a .storage .now) (a .keys .now)) (pageOf (a .format) (a .segment) (a .at))
 unfolding pageOf
 entered c =
-    let a = c .before .before .before .before .before .before .before .before .before .before .args in
+    let at-control-halfword = c .before .before .before .before .before in
+    let at-page-entry-at = at-control-halfword .before .before in
+    let start = at-page-entry-at .before .before .before in
+    let a = start .args in
     let s = a .storage .now in
-    let f = simp (c .before .before .before .before .before .before .before .page-entry-at .ensures) at (c .before .before .before .before .before .control-halfword .ensures) in (
+    let f = simp (at-page-entry-at .page-entry-at .ensures) at (at-control-halfword .control-halfword .ensures) in (
       _,
       _,
       _,
-      step (c .before .before .before .before .before .control-halfword .result) s (c .before .before .before .before .before .control-halfword .last .1 .0) _ _
-          (begin (machine s (a .keys .now)) (pageOf (a .format) (a .segment) (a .at))) (fresh _ _ f) (c .before .field .given .1),
+      step (at-control-halfword .control-halfword .result) s (at-control-halfword .control-halfword .last .1 .0) _ _
+          (begin (machine s (a .keys .now)) (pageOf (a .format) (a .segment) (a .at))) (fresh _ _ f)
+          (c .before .field .given .1),
     )
 
 -- step 10
 tested : (c : tie.After-is-malformed)
-    → let f = c .before .before .before .before .before .before .before .before .before .before .before .before .args .format in
-    let page = c .before .before .before .field .given .0 .0 in
+    → let at-field = c .before .before .before in
+    let start = at-field .before .before .before .before .before .before .before .before .before in
+    let f = start .args .format in
+    let page = at-field .field .given .0 .0 in
     (not (c .before .is-invalid .result) && c .is-malformed .result) ≡ (not (invalid f page) && malformed f page)
 tested c = simp (c .before .is-invalid .ensures, c .is-malformed .ensures)
 
 returns : tie.Need-returns
 unfolding pageOf
 returns c =
-    let a = c .before .before .before .before .before .before .before .before .before .args in
+    let at-control-halfword = c .before .before .before .before in
+    let at-page-entry-at = at-control-halfword .before .before in
+    let start = at-page-entry-at .before .before .before in
+    let a = start .args in
     let s = a .storage .now in
-    let f = simp (c .before .before .before .before .before .before .page-entry-at .ensures) at (c .before .before .before .before .control-halfword .ensures) in
-    hands (c .before .before .before .before .control-halfword .result) s (c .before .before .before .before .control-halfword .last .1 .0) _ _
-    (begin (machine s (a .keys .now)) (pageOf (a .format) (a .segment) (a .at))) (fresh _ _ f) (c .enum-told .given .1)
+    let f = simp (at-page-entry-at .page-entry-at .ensures) at (at-control-halfword .control-halfword .ensures) in
+    hands (at-control-halfword .control-halfword .result) s (at-control-halfword .control-halfword .last .1 .0) _ _
+    (begin (machine s (a .keys .now)) (pageOf (a .format) (a .segment) (a .at))) (fresh _ _ f)
+    (c .enum-told .given .1)
 
 returns-2 : tie.Need-returns-2
 unfolding pageOf entered
-returns-2 c = stops _ _ _ (entered (c .before .before .before) .3) (sym (tested (c .before)) ∙ c .if1 .taken)
+returns-2 c =
+    let at-known-told = c .before .before .before in
+    stops _ _ _ (entered at-known-told .3) (sym (tested (c .before)) ∙ c .if1 .taken)
 
 returns-3 : tie.Need-returns-3
 unfolding pageOf entered
-returns-3 c = settles _ (pass _ _ _ (entered (c .before .before .before) .3) (sym (tested (c .before)) ∙ c .if1 .left))
+returns-3 c =
+    let at-known-told = c .before .before .before in
+    settles _ (pass _ _ _ (entered at-known-told .3) (sym (tested (c .before)) ∙ c .if1 .left))
 
 pub page-of-spec : {M : Type 1} → statement M
 page-of-spec =

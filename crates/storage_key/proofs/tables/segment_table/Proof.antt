@@ -11,36 +11,56 @@ abbrev Here : tie.Start → Type 0
 Here c = let a = c .args in Left (machine (a .storage .now) (a .keys .now)) (segmentTable (a .call))
 
 -- step 1 passed
-abbrev assisted : (c : tie.Else1) → Here (c .before .before .before .before .before .before)
+abbrev assisted : (c : tie.Else1)
+    → let start = c .before .before .before .before .before .before in
+    Here start
 unfolding segmentTable
 assisted c =
-    let a = c .before .before .before .before .before .before .args in
-    let m = machine (a .storage .now) (a .keys .now) in
-    (_, _, _, pass _ _ _ (begin m (segmentTable (a .call))) (simp (c .before .address-word .ensures) at (c .if1 .left)))
+    let start = c .before .before .before .before .before .before in
+    let a = start .args in
+    let m = machine (a .storage .now) (a .keys .now) in (
+      _,
+      _,
+      _,
+      pass _ _ _ (begin m (segmentTable (a .call)))
+          (simp (c .before .address-word .ensures) at (c .if1 .left)),
+    )
 
 -- step 2: MICRSEG
-abbrev field : (c : tie.After-known-told) → Here (c .before .before .before .before .before .before .before .before .before .before .before .before .before)
+abbrev field : (c : tie.After-known-told)
+    → let at-guest = c .before .before .before .before .before .before .before .before .before .before in
+    let start = at-guest .before .before .before in
+    Here start
 unfolding segmentTable assisted
-field c = (
-  _,
-  _,
-  _,
-  step (c .before .before .before .before .before .micrseg .result) (c .before .before .before .before .before .before .before .before .before .before .before .before .before .args .storage .now) (c .before .before .before .before .before .micrseg .last .1 .0) _ _ (assisted (c .before .before .before .before .before .before .before) .3)
-      (fresh _ _ (c .before .before .before .before .before .micrseg .ensures)) (c .before .field .given .1),
-)
+field c =
+    let at-micrseg = c .before .before .before .before .before in
+    let at-if1 = at-micrseg .before .before in
+    let start = at-if1 .before .before .before .before .before .before in (
+      _,
+      _,
+      _,
+      step (at-micrseg .micrseg .result) (start .args .storage .now) (at-micrseg .micrseg .last .1 .0) _ _
+          (assisted at-if1 .3)
+          (fresh _ _ (at-micrseg .micrseg .ensures)) (c .before .field .given .1),
+    )
 
 returns : tie.Need-returns
 unfolding segmentTable
 returns c =
-    let a = c .before .before .before .before .before .before .args in
+    let start = c .before .before .before .before .before .before in
+    let a = start .args in
     let m = machine (a .storage .now) (a .keys .now) in
     stops _ _ _ (begin m (segmentTable (a .call))) (simp (c .before .address-word .ensures) at (c .if1 .taken))
 
 returns-2 : tie.Need-returns-2
 unfolding segmentTable assisted
 returns-2 c =
-    hands (c .before .before .before .before .micrseg .result) (c .before .before .before .before .before .before .before .before .before .before .before .before .args .storage .now) (c .before .before .before .before .micrseg .last .1 .0) _ _ (assisted (c .before .before .before .before .before .before) .3)
-    (fresh _ _ (c .before .before .before .before .micrseg .ensures)) (c .enum-told .given .1)
+    let at-micrseg = c .before .before .before .before in
+    let at-if1 = at-micrseg .before .before in
+    let start = at-if1 .before .before .before .before .before .before in
+    hands (at-micrseg .micrseg .result) (start .args .storage .now) (at-micrseg .micrseg .last .1 .0) _ _
+    (assisted at-if1 .3)
+    (fresh _ _ (at-micrseg .micrseg .ensures)) (c .enum-told .given .1)
 
 returns-3 : tie.Need-returns-3
 unfolding segmentTable assisted field

@@ -9,21 +9,33 @@ use Rattle.storage_key.proofs.tables.swap_word_at.Tie as tie
 returns : tie.Need-returns
 unfolding swapWordAt
 returns c =
-    let a = c .before .before .before .before .before .before .before .before .before .before .args in
+    let at-control-word = c .before .before .before .before in
+    let at-difference = at-control-word .before .before in
+    let start = at-difference .before .before .before .before in
+    let a = start .args in
     let s = a .storage .now in
-    let f = simp (c .before .before .before .before .before .before .difference .ensures, c .before .before .before .before .before .before .before .page-table .ensures) at (c .before .before .before .before .control-word .ensures) in
-    hands (c .before .before .before .before .control-word .result) s (c .before .before .before .before .control-word .last .1 .0) _ _
-    (begin (machine s (a .keys .now)) (swapWordAt (a .format) (a .segment) (a .at))) (fresh _ _ f) (c .enum-told .given .1)
+    let f = simp (at-difference .difference .ensures, at-difference .before .page-table .ensures) at
+    (at-control-word .control-word .ensures) in
+    hands (at-control-word .control-word .result) s (at-control-word .control-word .last .1 .0) _ _
+    (begin (machine s (a .keys .now)) (swapWordAt (a .format) (a .segment) (a .at))) (fresh _ _ f)
+    (c .enum-told .given .1)
 
 returns-2 : tie.Need-returns-2
 unfolding swapWordAt
 returns-2 c =
-    let a = c .before .before .before .before .before .before .before .before .before .before .before .before .before .before .args in
+    let at-page-index = c .before .before in
+    let at-field = at-page-index .before .before in
+    let at-control-word = at-field .before .before .before .before in
+    let at-difference = at-control-word .before .before in
+    let start = at-difference .before .before .before .before in
+    let a = start .args in
     let s = a .storage .now in
-    let f = simp (c .before .before .before .before .before .before .before .before .before .before .difference .ensures, c .before .before .before .before .before .before .before .before .before .before .before .page-table .ensures) at (c .before .before .before .before .before .before .before .before .control-word .ensures) in
-    simp (c .sum .ensures, c .before .address-in .ensures, c .before .before .page-index .ensures .0)
-    (settles _ (step (c .before .before .before .before .before .before .before .before .control-word .result) s (c .before .before .before .before .before .before .before .before .control-word .last .1 .0) _ _
-    (begin (machine s (a .keys .now)) (swapWordAt (a .format) (a .segment) (a .at))) (fresh _ _ f) (c .before .before .before .before .field .given .1)))
+    let f = simp (at-difference .difference .ensures, at-difference .before .page-table .ensures) at
+    (at-control-word .control-word .ensures) in
+    simp (c .sum .ensures, c .before .address-in .ensures, at-page-index .page-index .ensures .0)
+    (settles _ (step (at-control-word .control-word .result) s (at-control-word .control-word .last .1 .0) _ _
+    (begin (machine s (a .keys .now)) (swapWordAt (a .format) (a .segment) (a .at))) (fresh _ _ f)
+    (at-field .field .given .1)))
 
 pub swap-word-at-spec : {M : Type 1} → statement M
 swap-word-at-spec =

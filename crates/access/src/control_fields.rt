@@ -1,6 +1,6 @@
 // The control program's fields: real, with key zero, each with the step that wants it, which ending 3 carries.
 ghost use mathlib.Core.Path.{_≡_};
-ghost use Rattle.rules.specs.ControlFields.{controlWord, controlHalfword, micrseg};
+ghost use Rattle.rules.specs.ControlFields.{controlWord, controlHalfword, micblokWord, micrseg};
 ghost use Rattle.rules.specs.ControlFields.{miccreg, micvpsw, addressIn, pending};
 ghost use Rattle.rules.specs.StoreControl.{assistsControl};
 ghost use Rattle.storage.specs.Answers.{machine, told, seen};
@@ -34,13 +34,22 @@ pub fn control_halfword(storage: &[u8], keys: &mut [u8], step: u32, at: u32) -> 
 }
 
 // MICBLOK: MICRSEG at offset 0, MICCREG at 4, MICVPSW at 8.
+fn micblok_word(storage: &[u8], keys: &mut [u8], step: u32, offset: u32, guest: Guest) -> Stepped
+    ensures { λ r. ⌜
+        told r (now (storage .entry)) (now (keys .exit))
+        ≡ seen (micblokWord step offset guest) (machine (now (storage .entry)) (now (keys .entry)))
+        ⌝ }
+{
+    control_word(storage, keys, step, rules::sum(guest.micblok(), offset))
+}
+
 pub fn micrseg(storage: &[u8], keys: &mut [u8], step: u32, guest: Guest) -> Stepped
     ensures { λ r. ⌜
         told r (now (storage .entry)) (now (keys .exit))
         ≡ seen (micrseg step guest) (machine (now (storage .entry)) (now (keys .entry)))
         ⌝ }
 {
-    control_word(storage, keys, step, guest.micblok())
+    micblok_word(storage, keys, step, 0, guest)
 }
 
 pub fn miccreg(storage: &[u8], keys: &mut [u8], step: u32, guest: Guest) -> Stepped
@@ -49,7 +58,7 @@ pub fn miccreg(storage: &[u8], keys: &mut [u8], step: u32, guest: Guest) -> Step
         ≡ seen (miccreg step guest) (machine (now (storage .entry)) (now (keys .entry)))
         ⌝ }
 {
-    control_word(storage, keys, step, rules::sum(guest.micblok(), 4))
+    micblok_word(storage, keys, step, 4, guest)
 }
 
 pub fn micvpsw(storage: &[u8], keys: &mut [u8], step: u32, guest: Guest) -> Stepped
@@ -58,7 +67,7 @@ pub fn micvpsw(storage: &[u8], keys: &mut [u8], step: u32, guest: Guest) -> Step
         ≡ seen (micvpsw step guest) (machine (now (storage .entry)) (now (keys .entry)))
         ⌝ }
 {
-    control_word(storage, keys, step, rules::sum(guest.micblok(), 8))
+    micblok_word(storage, keys, step, 8, guest)
 }
 
 // The address that MICCREG or MICVPSW gives: bits 8-31.

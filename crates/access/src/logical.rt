@@ -8,6 +8,7 @@ use crate::translation::translate;
 use rules::Ending;
 use rules::Exception;
 use rules::Guest;
+use rules::KeyUse;
 use storage::Stepped;
 use storage::Width;
 
@@ -46,7 +47,9 @@ fn access(storage: &[u8], keys: &mut [u8], guest: Guest, store: bool, at: u32) -
         return resolved;
     };
     let outside = Ending::Interruption(Exception::Addressing);
-    let consulted = storage::protection_key(keys, real / 2048, outside).after(count);
+    let consulted = storage::consult_key(keys, KeyUse::ForProtection, real / 2048, outside).after(
+        count,
+    );
     let Stepped::Value(key, counted) = consulted else {
         return consulted;
     };

@@ -1,7 +1,7 @@
 -- What a finished attempt answers is the definition's answer: its count is at most 85, so 32 bits hold it.
-use Prim.Native.Nat.{ℕ, _+_, _%_, _^_, _≤_}
+use Prim.Native.Nat.{_+_, _%_, _^_, _≤_}
 use native.Mathlib.Omega.{arith}
-use mathlib.Core.Path.{_≡_, refl, ap}
+use mathlib.Core.Path.{_≡_, ap}
 use mathlib.Core.List.{List, _++_, map}
 use lib.ListN.{length, length-append, length-map}
 use Rattle.rules.specs.declared.guest.Guest.{Guest}

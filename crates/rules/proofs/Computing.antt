@@ -1,8 +1,7 @@
 -- To compute an attempt, every definition that is shut is opened: `unfolding computing`.
 use Rattle.rules.specs.Steps.{_>>=_, fetchBytes, consultKey, stopIf, endingAs}
 use Rattle.rules.specs.Translation.{formatOf, segmentEntry, pageAddress, translate}
-use Rattle.rules.specs.Access.{realOf, access, storeTest, logicalFetch, secondHalfword}
-use Rattle.rules.specs.ControlFields.{controlWord, controlHalfword, micrseg, miccreg, micvpsw}
+use Rattle.rules.specs.Access.{realOf, access, logicalFetch}
 use Rattle.rules.specs.Call.{complete}
 use Rattle.rules.specs.SetSystemMask.{maskOperand, maskTarget, setSystemMask}
 use Rattle.rules.specs.StoreControl.{gather, controlBlock, wordOperand, storeControl}
@@ -24,7 +23,7 @@ unfolding _>>=_ fetchBytes consultKey stopIf endingAs formatOf segmentEntry page
 walking = tt
 
 unfoldable pub fetching : Unit {0}
-unfolding walking storeTest logicalFetch secondHalfword controlWord controlHalfword micrseg miccreg micvpsw complete
+unfolding walking logicalFetch complete
 fetching = tt
 
 -- the instructions

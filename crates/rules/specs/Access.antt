@@ -6,7 +6,7 @@ use Rattle.rules.specs.Endings.{Protection, Addressing, Interruption}
 use Rattle.rules.specs.Guest.{Guest, instructionAddress, datOn, pswKey}
 use Rattle.rules.specs.Bits.{bits, bit}
 use Rattle.rules.specs.Machine.{_⊕_}
-use Rattle.rules.specs.References.{protection}
+use Rattle.rules.specs.References.{ForProtection}
 use Rattle.rules.specs.Steps.{Steps, done, branch, _>>=_, _>>_, fetchBytes, consultKey, stopIf}
 use Rattle.rules.specs.Translation.{translate}
 
@@ -26,12 +26,12 @@ fetchPasses p k = storePasses p k || not (bit 5 4 k)
 unfoldable pub access : (passes : ℕ → ℕ → Bool) → Guest → (address : ℕ) → Steps ℕ
 access passes g a = do
   real ← realOf g a
-  k ← consultKey protection (real / 2048) (Interruption Addressing)
+  k ← consultKey ForProtection (real / 2048) (Interruption Addressing)
   stopIf (not (passes (pswKey g) k)) (Interruption Protection)
   done real
 
 -- a store test: the real address of an operand that is stored later
-unfoldable pub storeTest : Guest → (address : ℕ) → Steps ℕ
+abbrev pub storeTest : Guest → (address : ℕ) → Steps ℕ
 storeTest g a = access storePasses g a
 
 -- a logical fetch of n bytes that lie in one block
@@ -41,5 +41,5 @@ logicalFetch g a n = do
   fetchBytes real n (Interruption Addressing)
 
 -- the second halfword of the instruction
-unfoldable pub secondHalfword : Guest → Steps ℕ
+abbrev pub secondHalfword : Guest → Steps ℕ
 secondHalfword g = logicalFetch g (instructionAddress g ⊕ 2) 2

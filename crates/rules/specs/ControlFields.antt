@@ -8,22 +8,25 @@ use Rattle.rules.specs.Bits.{bit, word}
 use Rattle.rules.specs.Machine.{_⊕_}
 use Rattle.rules.specs.Steps.{Steps, fetchBytes}
 
-unfoldable pub controlWord : (step address : ℕ) → Steps ℕ
+abbrev pub controlWord : (step address : ℕ) → Steps ℕ
 controlWord step address = fetchBytes address 4 (FieldMissing step)
 
-unfoldable pub controlHalfword : (step address : ℕ) → Steps ℕ
+abbrev pub controlHalfword : (step address : ℕ) → Steps ℕ
 controlHalfword step address = fetchBytes address 2 (FieldMissing step)
 
 -- ---- MICBLOK: MICRSEG at offset 0, MICCREG at 4, MICVPSW at 8
 
-unfoldable pub micrseg : (step : ℕ) → Guest → Steps ℕ
-micrseg step g = controlWord step (micblok g)
+abbrev pub micblokWord : (step offset : ℕ) → Guest → Steps ℕ
+micblokWord step offset g = controlWord step (micblok g ⊕ offset)
 
-unfoldable pub miccreg : (step : ℕ) → Guest → Steps ℕ
-miccreg step g = controlWord step (micblok g ⊕ 4)
+abbrev pub micrseg : (step : ℕ) → Guest → Steps ℕ
+micrseg step = micblokWord step 0
 
-unfoldable pub micvpsw : (step : ℕ) → Guest → Steps ℕ
-micvpsw step g = controlWord step (micblok g ⊕ 8)
+abbrev pub miccreg : (step : ℕ) → Guest → Steps ℕ
+miccreg step = micblokWord step 4
+
+abbrev pub micvpsw : (step : ℕ) → Guest → Steps ℕ
+micvpsw step = micblokWord step 8
 
 -- the address that MICCREG or MICVPSW gives: bits 8-31
 abbrev pub addressIn : (field : ℕ) → ℕ

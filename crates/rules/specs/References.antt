@@ -2,20 +2,18 @@
 -- Document 01, "References, in order".
 use Prim.Native.Nat.{ℕ, _/_}
 use mathlib.Core.List.{List, [], _∷_}
+pub use Rattle.rules.specs.declared.keys.KeyUse.{KeyUse}
+pub use Rattle.rules.specs.declared.keys.KeyUse.the-variants.{ForProtection, Whole}
 use Rattle.rules.specs.Machine.{addresses, Write, store, setKey}
 
 -- What a key is consulted for: protection, which sees bits 0-4 alone, or whole (SET STORAGE KEY, step 11).
-pub data Use : Type 0 where
-  protection : Use
-  whole : Use
-
-abbrev pub seenAs : Use → (key : ℕ) → ℕ
-seenAs protection k = k / 8
-seenAs whole k = k
+abbrev pub seenAs : KeyUse → (key : ℕ) → ℕ
+seenAs ForProtection k = k / 8
+seenAs Whole k = k
 
 pub data Reference : Type 0 where
   fetched : (address bytes : ℕ) → Reference
-  consulted : Use → (block : ℕ) → Reference
+  consulted : KeyUse → (block : ℕ) → Reference
   wrote : (address bytes : ℕ) → Reference
   keySet : (block : ℕ) → Reference
 

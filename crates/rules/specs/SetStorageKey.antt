@@ -28,7 +28,7 @@ use Rattle.rules.specs.Translation.{
 }
 use Rattle.rules.specs.Bits.{bits, bit, word}
 use Rattle.rules.specs.Machine.{_⊕_, Write, store, setKey}
-use Rattle.rules.specs.References.{whole}
+use Rattle.rules.specs.References.{Whole}
 use Rattle.rules.specs.Guest.{register}
 use Rattle.rules.specs.Steps.{Steps, done, branch, _>>=_, _>>_, consultKey, stopIf}
 use Rattle.rules.specs.ControlFields.{controlWord, controlHalfword, micrseg, addressIn}
@@ -73,7 +73,7 @@ newKey key old = word 24 28 key * 8 + old % 2
 
 unfoldable pub setBlockKey : Call → (block at swapWord : ℕ) → Steps Completion
 setBlockKey c block at w = do
-  old ← consultKey whole block (FieldMissing 11)
+  old ← consultKey Whole block (FieldMissing 11)
   storeSwapWord c (setKey block (newKey (keyWord c) old) ∷ []) at w (bits 8 5 6 old)
 
 -- step 7: the address of the swap word, from the word at the page-table origin less 4

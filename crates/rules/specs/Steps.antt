@@ -3,7 +3,7 @@
 use Prim.Native.Nat.{ℕ}
 use mathlib.Core.Bool.{Bool}
 use Rattle.rules.specs.Endings.{Ending}
-use Rattle.rules.specs.References.{Use}
+use Rattle.rules.specs.References.{KeyUse}
 
 pub data Steps (A : Type 0) : Type 0 where
   done : A → Steps A
@@ -11,7 +11,7 @@ pub data Steps (A : Type 0) : Type 0 where
   -- an item of storage; the ending if one of its bytes is not in storage
   fetch : (address bytes : ℕ) → Ending → (ℕ → Steps A) → Steps A
   -- the key of a block; the ending if the block is not in storage
-  key : Use → (block : ℕ) → Ending → (ℕ → Steps A) → Steps A
+  key : KeyUse → (block : ℕ) → Ending → (ℕ → Steps A) → Steps A
   -- a test, kept in the program
   branch : Bool → Steps A → Steps A → Steps A
 
@@ -30,7 +30,7 @@ infixl 10 _>>_
 unfoldable pub fetchBytes : (address bytes : ℕ) → Ending → Steps ℕ
 fetchBytes address n e = fetch address n e done
 
-unfoldable pub consultKey : Use → (block : ℕ) → Ending → Steps ℕ
+unfoldable pub consultKey : KeyUse → (block : ℕ) → Ending → Steps ℕ
 consultKey u block e = key u block e done
 
 unfoldable pub stopIf : Bool → Ending → Steps (Unit {0})

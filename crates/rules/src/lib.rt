@@ -5,6 +5,7 @@ mod answer;
 mod call;
 mod endings;
 mod guest;
+mod keys;
 mod masks;
 mod tables;
 
@@ -15,6 +16,7 @@ pub use call::Call;
 pub use endings::Ending;
 pub use endings::Exception;
 pub use guest::Guest;
+pub use keys::KeyUse;
 pub use masks::MaskChange;
 pub use tables::Format;
 pub use tables::PageFault;

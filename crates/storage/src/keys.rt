@@ -2,38 +2,22 @@
 ghost use Prim.Native.Nat.{ℕ};
 ghost use mathlib.Core.Path.{_≡_};
 ghost use mathlib.Core.List.{List};
-ghost use Rattle.rules.specs.References.{protection, whole};
 ghost use Rattle.rules.specs.Steps.{consultKey};
 ghost use Rattle.storage.specs.Answers.{machine, told, seen};
 use crate::steps::Stepped;
 use rules::Ending;
+use rules::KeyUse;
 
-// A key consulted for protection: its five left bits.
-pub fn protection_key(keys: &mut [u8], block: u32, missing: Ending) -> Stepped
+// The key of a block, as it is seen for this use, or the ending if the block is not in storage.
+pub fn consult_key(keys: &mut [u8], for_use: KeyUse, block: u32, missing: Ending) -> Stepped
     ensures { λ r. ⌜
         ((s : List ℕ) →
-        told r s (now (keys .exit))
-        ≡ seen (consultKey protection block missing) (machine s (now (keys .entry))))
+        told r s (now (keys .exit)) ≡ seen (consultKey «for_use» block missing) (machine s (now (keys .entry))))
         ⌝ }
 {
     let i = block as usize;
     if i < keys.len() {
-        return Stepped::Value((keys[i] / 8) as u32, 1);
-    }
-    Stepped::Stopped(missing, 0)
-}
-
-// A key consulted whole.
-pub fn whole_key(keys: &mut [u8], block: u32, missing: Ending) -> Stepped
-    ensures { λ r. ⌜
-        ((s : List ℕ) →
-        told r s (now (keys .exit))
-        ≡ seen (consultKey whole block missing) (machine s (now (keys .entry))))
-        ⌝ }
-{
-    let i = block as usize;
-    if i < keys.len() {
-        return Stepped::Value(keys[i] as u32, 1);
+        return Stepped::Value(for_use.seen(keys[i] as u32), 1);
     }
     Stepped::Stopped(missing, 0)
 }

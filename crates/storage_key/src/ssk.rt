@@ -15,6 +15,7 @@ use rules::Answer;
 use rules::Call;
 use rules::Ending;
 use rules::Format;
+use rules::KeyUse;
 use storage::Stepped;
 
 // Steps 7 to 12, for a format, a segment entry and an address.
@@ -53,7 +54,12 @@ fn set_key_in(
         return storage::completed(call, 2, count, 1);
     }
     let block = access::real_address(format, page, at) / 2048;
-    let consulted = storage::whole_key(keys, block, Ending::FieldMissing(11)).after(count);
+    let consulted = storage::consult_key(
+        keys,
+        KeyUse::Whole,
+        block,
+        Ending::FieldMissing(11),
+    ).after(count);
     let Stepped::Value(old, known) = consulted else {
         return consulted.ending(guest);
     };

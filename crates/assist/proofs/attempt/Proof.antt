@@ -1,5 +1,5 @@
 use Prim.Native.Nat.{_≤_}
-use mathlib.Core.Path.{_≡_, refl, sym, ap, _∙_, subst}
+use mathlib.Core.Path.{sym, ap, _∙_, subst}
 use Rattle.rules.specs.Endings.{numbers}
 use Rattle.rules.proofs.Theorems.Count.{count-bounded}
 use Rattle.storage.specs.Answers.{machine}

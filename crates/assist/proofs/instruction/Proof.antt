@@ -1,6 +1,5 @@
-use mathlib.Core.Path.{_≡_, refl, sym, ap, _∙_}
+use mathlib.Core.Path.{sym, _∙_}
 use borrow.Author.Tests.{eq-eqb, ne-eqb}
-use Rattle.rules.specs.Call.{operation}
 use Rattle.rules.specs.Attempt.{instruction}
 use Rattle.storage.specs.Answers.{machine}
 use Rattle.storage.proofs.Laws.{Left, begin, chosen, rejected, continues}

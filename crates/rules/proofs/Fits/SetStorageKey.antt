@@ -5,7 +5,6 @@ use mathlib.Core.Path.{refl}
 use Rattle.rules.specs.Bits.{word}
 use Rattle.rules.specs.Steps.{_>>=_, fetchBytes, stopIf}
 use Rattle.rules.specs.Translation.{Format, segmentEntry}
-use Rattle.rules.specs.ControlFields.{controlWord, micrseg}
 use Rattle.rules.specs.Call.{Call}
 use Rattle.rules.specs.SetStorageKey.{
   segmentRefusal,
@@ -50,7 +49,7 @@ segmentEntry-within f table a = (
 )
 
 pub setStorageKey-fits : (c : Call) → Fits 0x08 c (setStorageKey c) 8
-unfolding _>>=_ fetchBytes stopIf controlWord micrseg segmentTable setStorageKey
+unfolding _>>=_ fetchBytes stopIf segmentTable setStorageKey
 setStorageKey-fits c = (
   λ t. stops refl refl refl,
   λ t. (

@@ -6,7 +6,6 @@ use Rattle.rules.specs.Machine.{_⊕_}
 use Rattle.rules.specs.Guest.{Guest, effective, instructionAddress}
 use Rattle.rules.specs.Steps.{_>>=_, fetchBytes, stopIf}
 use Rattle.rules.specs.Access.{secondHalfword}
-use Rattle.rules.specs.ControlFields.{controlWord, miccreg}
 use Rattle.rules.specs.Call.{Call, complete}
 use Rattle.rules.specs.SetSystemMask.{maskOperand, maskTarget, setSystemMask}
 use Rattle.rules.proofs.Computing.{masking}
@@ -27,7 +26,7 @@ ssm-exceptions : (a : ℕ) → a < 2 ^ 24 → Exceptions (Stops 0x80) a
 ssm-exceptions a l = exceptions 0x80 a l (refl, refl, refl, refl, refl)
 
 maskOperand-within : (g : Guest) → Within (Stops 0x80) Any (maskOperand g) 10
-unfolding _>>=_ fetchBytes stopIf controlWord miccreg secondHalfword maskOperand
+unfolding _>>=_ fetchBytes stopIf maskOperand
 maskOperand-within g = (
   λ t. stops refl refl refl,
   λ t. (

@@ -8,8 +8,8 @@ use lib.ListN.{length, length-append}
 use Rattle.rules.specs.Machine.{_⊕_}
 use Rattle.rules.specs.Guest.{Guest, instructionAddress}
 use Rattle.rules.specs.Steps.{Steps, _>>=_, fetchBytes, stopIf}
-use Rattle.rules.specs.Access.{access, storeTest, secondHalfword}
-use Rattle.rules.specs.ControlFields.{controlWord, miccreg, addressIn}
+use Rattle.rules.specs.Access.{access, secondHalfword}
+use Rattle.rules.specs.ControlFields.{addressIn}
 use Rattle.rules.specs.Call.{Call, r1, r3, complete}
 use Rattle.rules.specs.StoreControl.{
   registerCount,
@@ -58,14 +58,13 @@ module _ (p : ℕ → Steps ℕ) (next : ℕ → ℕ) (P : ℕ → Type 0) (k : 
       (λ v t. gather-within (found ++ v ∷ []) (next x) n (suc i) all (on x h) (omega arith) (append-many i found v f))
 
 registers-within : (ecblok r n : ℕ) → Within (Stops 0xb6) (λ xs j. Many n xs) (virtualRegisters ecblok r n) (n * 1)
-unfolding fetchBytes controlWord
+unfolding fetchBytes
 registers-within ecblok r n =
     gather-within _ _ (λ r. Unit {0}) 1 (λ r t. (stops refl refl refl, λ v. tt)) (λ r t. t) [] r n 0 n tt
     (omega arith) refl
 
 operands-within : (g : Guest) (a n : ℕ) → a < 2 ^ 24
     → Within (Stops 0xb6) (λ xs j. Many n xs) (operandWords g a n) (n * 3)
-unfolding storeTest
 operands-within g a n l =
     gather-within _ _ (λ a. a < 2 ^ 24) 3 (λ a l. access-within (Stops 0xb6) _ g a (stctl-exceptions a l))
     (λ a l. omega arith) [] a n 0 n l (omega arith) refl
@@ -94,7 +93,7 @@ storeRegisters-fits c ecblok a l =
     (λ reals k. completes refl refl (let w = wordStores-few reals values in omega arith)))
 
 wordOperand-within : (g : Guest) → Within (Stops 0xb6) (λ a k. a < 2 ^ 24) (wordOperand g) 4
-unfolding _>>=_ stopIf secondHalfword wordOperand
+unfolding _>>=_ stopIf wordOperand
 wordOperand-within g =
     within-then (Stops 0xb6) (λ v. Unit {0}) (λ a k. a < 2 ^ 24) (λ a j k l h. h) (secondHalfword g) _ 4 0 4
     (omega arith)
@@ -102,7 +101,7 @@ wordOperand-within g =
     (λ second t. (λ t. stops refl refl refl, λ t. omega arith))
 
 pub storeControl-fits : (c : Call) → Fits 0xb6 c (storeControl c) 85
-unfolding _>>=_ fetchBytes stopIf controlWord miccreg controlBlock storeControl
+unfolding _>>=_ fetchBytes stopIf controlBlock storeControl
 storeControl-fits c = (
   λ t. stops refl refl refl,
   λ t. (

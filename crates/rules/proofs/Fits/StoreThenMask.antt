@@ -7,8 +7,7 @@ use Rattle.rules.specs.Machine.{_⊕_}
 use Rattle.rules.specs.Guest.{Guest, advance, effective, instructionAddress}
 use Rattle.rules.specs.Endings.{Completed, Expanded, FieldMissing, refuse}
 use Rattle.rules.specs.Steps.{_>>=_, fetchBytes, stopIf, endingAs}
-use Rattle.rules.specs.Access.{access, storeTest, secondHalfword}
-use Rattle.rules.specs.ControlFields.{controlWord, controlHalfword, micvpsw}
+use Rattle.rules.specs.Access.{access, secondHalfword}
 use Rattle.rules.specs.Call.{Call, complete}
 use Rattle.rules.specs.StoreThenMask.{MaskChange, byteOperand, storeThen}
 use Rattle.rules.specs.Theorems.Answers.{table, listed, Possible, instructionLength}
@@ -36,7 +35,7 @@ pub record MaskTable (op : ℕ) : Type 0 where
   pub length : instructionLength op ≡ 4
 
 byteOperand-within : (op : ℕ) → MaskTable op → (g : Guest) → Within (Stops op) Any (byteOperand g) 7
-unfolding secondHalfword storeTest byteOperand
+unfolding byteOperand
 byteOperand-within op t g =
     within-then (Stops op) (λ v. Unit {0}) Any (λ r j k l h. tt) (endingAs (λ e. refuse) (secondHalfword g)) _ 4 3 7
     (omega arith)
@@ -46,7 +45,7 @@ byteOperand-within op t g =
     (λ second u. access-within (Stops op) _ g (effective g second) (exceptions op _ (omega arith) (t .accesses)))
 
 pub storeThen-fits : (op : ℕ) → MaskTable op → (change : MaskChange) (c : Call) → Fits op c (storeThen change c) 11
-unfolding _>>=_ fetchBytes stopIf controlWord controlHalfword micvpsw complete storeThen
+unfolding _>>=_ fetchBytes stopIf complete storeThen
 storeThen-fits op t change c =
     let g = c .guest in (
       λ x. t .refused,

@@ -1,9 +1,9 @@
 use mathlib.Core.Bool.{not}
 use Rattle.rules.specs.Guest.{pswKey}
-use mathlib.Core.Path.{_≡_, refl, sym, ap, _∙_}
+use mathlib.Core.Path.{_≡_, sym, ap, _∙_}
 use Rattle.rules.specs.Access.{access}
-use Rattle.storage.specs.Answers.{machine, told, seen}
-use Rattle.storage.proofs.Laws.{Left, more, begin, fresh, waited, pass, stops, step, hands, settles}
+use Rattle.storage.specs.Answers.{machine}
+use Rattle.storage.proofs.Laws.{Left, begin, fresh, waited, pass, stops, step, hands, settles}
 use Rattle.access.specs.Walks.{passesFor}
 use borrow.Author.Needs.{needs}
 use Rattle.access.proofs.logical.access.Statement.{statement}
@@ -38,17 +38,17 @@ abbrev consulted : (c : tie.After-known-told2)
 unfolding access resolved
 consulted c =
     let at-after = c .before .before .before in
-    let at-protection-key = at-after .before .before .before in
-    let at-known-told = at-protection-key .before .before in
+    let at-consult-key = at-after .before .before .before in
+    let at-known-told = at-consult-key .before .before in
     let start = at-known-told .before .before .before .before .before .before .before .before .before in
     let s = start .args .storage .now in
-    let ks = at-protection-key .protection-key .last .0 in (
+    let ks = at-consult-key .consult-key .last .0 in (
       _,
       _,
       _,
       step (at-after .after .result) s ks _ _ (resolved at-known-told .3)
-          (waited (at-protection-key .protection-key .result) (at-after .after .result) _ s ks _ _
-          (at-after .after .ensures) (at-protection-key .protection-key .ensures s))
+          (waited (at-consult-key .consult-key .result) (at-after .after .result) _ s ks _ _
+          (at-after .after .ensures) (at-consult-key .consult-key .ensures s))
           (c .before .consulted .given .1),
     )
 
@@ -77,14 +77,14 @@ returns-2 : tie.Need-returns-2
 unfolding access resolved
 returns-2 c =
     let at-after = c .before .before in
-    let at-protection-key = at-after .before .before .before in
-    let at-known-told = at-protection-key .before .before in
+    let at-consult-key = at-after .before .before .before in
+    let at-known-told = at-consult-key .before .before in
     let start = at-known-told .before .before .before .before .before .before .before .before .before in
     let s = start .args .storage .now in
-    let ks = at-protection-key .protection-key .last .0 in
+    let ks = at-consult-key .consult-key .last .0 in
     hands (at-after .after .result) s ks _ _ (resolved at-known-told .3)
-    (waited (at-protection-key .protection-key .result) (at-after .after .result) _ s ks _ _
-    (at-after .after .ensures) (at-protection-key .protection-key .ensures s))
+    (waited (at-consult-key .consult-key .result) (at-after .after .result) _ s ks _ _
+    (at-after .after .ensures) (at-consult-key .consult-key .ensures s))
     (c .enum-told2 .given .1)
 
 returns-3 : tie.Need-returns-3

@@ -1,4 +1,3 @@
-use mathlib.Core.Path.{_≡_, refl, sym, ap, _∙_}
 use Rattle.rules.specs.Access.{logicalFetch}
 use Rattle.storage.specs.Items.{bytesIn}
 use Rattle.storage.specs.Answers.{machine}

@@ -1,4 +1,4 @@
-use mathlib.Core.Path.{_≡_, refl, sym, ap, _∙_}
+use mathlib.Core.Path.{sym, _∙_}
 use Rattle.rules.specs.Access.{realOf}
 use Rattle.storage.specs.Answers.{machine}
 use Rattle.storage.proofs.Laws.{begin, fresh, chosen, rejected, last, settles}

@@ -1,9 +1,9 @@
-use mathlib.Core.Path.{_≡_, refl, sym, ap, _∙_}
+use mathlib.Core.Path.{_≡_, sym, _∙_}
 use Rattle.rules.specs.declared.endings.Ending.the-variants.{Interruption}
 use Rattle.rules.specs.declared.endings.Exception.the-variants.{Addressing}
 use Rattle.rules.specs.Translation.{pageEntryAt, pageAddress, pageException}
 use Rattle.rules.specs.Steps.{fetchBytes}
-use Rattle.storage.specs.Answers.{machine, told, seen, went}
+use Rattle.storage.specs.Answers.{machine, told, seen}
 use Rattle.storage.proofs.Laws.{Left, more, begin, fresh, pass, stops, step, hands, settles}
 use borrow.Author.Needs.{needs}
 use Rattle.access.proofs.pages.page_address.Statement.{statement}

@@ -1,6 +1,4 @@
 use Rattle.access.proofs.Sizes as sizes
-use native.Mathlib.Omega.{arith}
-use mathlib.Core.Logic.{⊎-elim}
 use borrow.Author.Needs.{needs}
 use Rattle.access.proofs.pages.page_index.Statement.{statement}
 use Rattle.access.proofs.pages.page_index.Tie as tie

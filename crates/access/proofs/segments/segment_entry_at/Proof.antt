@@ -1,6 +1,4 @@
 use Rattle.access.proofs.Sizes.{segment-offset}
-use native.Mathlib.Omega.{arith}
-use mathlib.Core.Logic.{⊎-elim}
 use borrow.Author.Needs.{needs}
 use Rattle.access.proofs.segments.segment_entry_at.Statement.{statement}
 use Rattle.access.proofs.segments.segment_entry_at.Tie as tie

@@ -1,6 +1,5 @@
 use Rattle.storage.specs.Answers.{seen}
-use mathlib.Core.Path.{_≡_, refl, ap, sym, _∙_}
-use borrow.Author.Tests.{eq-eqb, ne-eqb}
+use borrow.Author.Tests.{ne-eqb}
 use Rattle.rules.specs.Steps.{_>>=_, stopIf}
 use Rattle.rules.specs.Translation.{formatOf}
 use borrow.Author.Needs.{needs}

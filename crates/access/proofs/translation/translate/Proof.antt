@@ -1,6 +1,5 @@
-use mathlib.Core.Path.{_≡_, refl, sym, ap, _∙_}
-use Rattle.rules.specs.Machine.{Machine}
-use Rattle.rules.specs.Translation.{segmentException, formatOf, segmentEntry, translate}
+use mathlib.Core.Path.{_≡_, sym, ap, _∙_}
+use Rattle.rules.specs.Translation.{segmentException, segmentEntry, translate}
 use Rattle.storage.specs.Answers.{machine, told, seen}
 use Rattle.storage.proofs.Laws.{Left, more, begin, fresh, waited, goes, ends, step, hands, last}
 use Rattle.access.specs.Walks.{formatted}

@@ -1,8 +1,7 @@
-use mathlib.Core.Path.{_≡_, refl, sym, ap, _∙_}
+use mathlib.Core.Path.{sym, ap, _∙_}
 use Rattle.rules.specs.Bits.{bits, bit}
-use Rattle.rules.specs.Machine.{perform, store, setKey}
-use Rattle.rules.specs.Translation.{realAddress}
-use Rattle.rules.specs.SetStorageKey.{keyWord, addressWord, swapWith, newKey, storeSwapWord, setBlockKey, setKeyIn}
+use Rattle.rules.specs.Machine.{perform, store}
+use Rattle.rules.specs.SetStorageKey.{keyWord, addressWord, swapWith, storeSwapWord, setBlockKey, setKeyIn}
 use Rattle.storage.specs.Answers.{machine}
 use Rattle.storage.proofs.Laws.{Left, begin, fresh, waited, chosen, rejected, step, halts, ended-by, completes}
 use borrow.Author.Needs.{needs}
@@ -104,21 +103,21 @@ abbrev key : (c : tie.After-known-told4)
 unfolding setKeyIn setBlockKey place word page valid
 key c =
     let at-after3 = c .before .before .before in
-    let at-whole-key = at-after3 .before .before .before in
-    let at-real-address = at-whole-key .before .before in
+    let at-consult-key = at-after3 .before .before .before in
+    let at-real-address = at-consult-key .before .before in
     let at-keys3 = at-real-address .before .before .before .before .before .before .before .before .before .before in
     let at-control-word = at-keys3 .before .before .before .before .before .before .before .before .before .before in
     let at-swap-word-at-arg =
     at-control-word .before .before .before .before .before .before .before .before .before .before in
     let start = at-swap-word-at-arg .before .before .before .before in
     let s = start .args .storage .now in
-    let ks = at-whole-key .whole-key .last .0 in
-    let f = simp (at-real-address .real-address .ensures) at (at-whole-key .whole-key .ensures s) in (
+    let ks = at-consult-key .consult-key .last .0 in
+    let f = simp (at-real-address .real-address .ensures) at (at-consult-key .consult-key .ensures s) in (
       _,
       _,
       _,
       step (at-after3 .after3 .result) s ks _ _ (valid (at-real-address .before) .3)
-          (waited (at-whole-key .whole-key .result) (at-after3 .after3 .result) _ s ks _ _
+          (waited (at-consult-key .consult-key .result) (at-after3 .after3 .result) _ s ks _ _
           (at-after3 .after3 .ensures) f) (c .before .consulted .given .1),
     )
 
@@ -211,20 +210,20 @@ returns-4 c =
 
 same-length-10 : tie.Need-same-length-10
 same-length-10 c =
-    let at-whole-key = c .before .before .before .before .before .before in
-    let at-after2 = at-whole-key .before .before .before .before .before .before .before .before .before .before in
+    let at-consult-key = c .before .before .before .before .before .before in
+    let at-after2 = at-consult-key .before .before .before .before .before .before .before .before .before .before in
     let at-page-of = at-after2 .before .before .before in
     let at-control-word = at-page-of .before .before .before .before .before .before .before .before .before in
     let at-swap-word-at = at-control-word .before .before .before .before .before .before .before .before in
-    at-whole-key .whole-key .kept .0 ∙ at-page-of .page-of .kept .1 .0 ∙ at-control-word .control-word .kept .1 .0
+    at-consult-key .consult-key .kept .0 ∙ at-page-of .page-of .kept .1 .0 ∙ at-control-word .control-word .kept .1 .0
     ∙ at-swap-word-at .swap-word-at .kept .1 .0
 
 returns-5 : tie.Need-returns-5
 unfolding setKeyIn setBlockKey place word page valid
 returns-5 c =
     let at-after3 = c .before .before .before in
-    let at-whole-key = at-after3 .before .before .before in
-    let at-real-address = at-whole-key .before .before in
+    let at-consult-key = at-after3 .before .before .before in
+    let at-real-address = at-consult-key .before .before in
     let at-keys3 = at-real-address .before .before .before .before .before .before .before .before .before .before in
     let at-control-word = at-keys3 .before .before .before .before .before .before .before .before .before .before in
     let at-swap-word-at-arg =
@@ -232,24 +231,24 @@ returns-5 c =
     let start = at-swap-word-at-arg .before .before .before .before in
     let a = start .args in
     let s = a .storage .now in
-    let ks = at-whole-key .whole-key .last .0 in
-    let f = simp (at-real-address .real-address .ensures) at (at-whole-key .whole-key .ensures s) in
+    let ks = at-consult-key .consult-key .last .0 in
+    let f = simp (at-real-address .real-address .ensures) at (at-consult-key .consult-key .ensures s) in
     ended-by (a .call .guest) (c .ending4 .result) s ks (at-after3 .after3 .result) (c .ending4 .ensures)
     (c .before .enum-told4 .given .1)
     (halts (at-after3 .after3 .result) s ks _ _ (valid (at-real-address .before) .3)
-    (waited (at-whole-key .whole-key .result) (at-after3 .after3 .result) _ s ks _ _ (at-after3 .after3 .ensures) f)
+    (waited (at-consult-key .consult-key .result) (at-after3 .after3 .result) _ s ks _ _ (at-after3 .after3 .ensures) f)
     (c .before .enum-told4 .given .1))
 
 same-length-12 : tie.Need-same-length-12
 same-length-12 c =
     let at-store-word2 = c .before .before .before .before .before in
     let at-set-key = at-store-word2 .before .before .before .before .before .before in
-    let at-whole-key = at-set-key .before .before .before .before .before .before .before .before .before in
-    let at-after2 = at-whole-key .before .before .before .before .before .before .before .before .before .before in
+    let at-consult-key = at-set-key .before .before .before .before .before .before .before .before .before in
+    let at-after2 = at-consult-key .before .before .before .before .before .before .before .before .before .before in
     let at-page-of = at-after2 .before .before .before in
     let at-control-word = at-page-of .before .before .before .before .before .before .before .before .before in
     let at-swap-word-at = at-control-word .before .before .before .before .before .before .before .before in
-    at-store-word2 .store-word2 .kept .1 .0 ∙ at-set-key .set-key .kept .0 ∙ at-whole-key .whole-key .kept .0
+    at-store-word2 .store-word2 .kept .1 .0 ∙ at-set-key .set-key .kept .0 ∙ at-consult-key .consult-key .kept .0
     ∙ at-page-of .page-of .kept .1 .0 ∙ at-control-word .control-word .kept .1 .0
     ∙ at-swap-word-at .swap-word-at .kept .1 .0
 

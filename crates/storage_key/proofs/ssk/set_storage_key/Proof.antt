@@ -1,4 +1,4 @@
-use mathlib.Core.Path.{_≡_, refl, sym, ap, _∙_}
+use mathlib.Core.Path.{_≡_, ap, _∙_}
 use Rattle.rules.specs.Bits.{word}
 use Rattle.rules.specs.Translation.{segmentEntry}
 use Rattle.rules.specs.SetStorageKey.{addressWord, formatIn, segmentRefusal, setStorageKey}

@@ -1,4 +1,4 @@
-use mathlib.Core.Path.{_≡_, refl, sym, ap, _∙_}
+use mathlib.Core.Path.{_≡_, sym, _∙_}
 use mathlib.Core.Bool.{not, _&&_}
 use Rattle.rules.specs.Translation.{invalid, malformed}
 use Rattle.rules.specs.SetStorageKey.{pageOf}

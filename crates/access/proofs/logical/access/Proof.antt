@@ -16,10 +16,12 @@ Here c =
 
 abbrev resolved : (c : tie.After-known-told)
     → let start = c .before .before .before .before .before .before .before .before .before in
+    let start = start in
     Here start
 unfolding access
 resolved c =
     let at-real-of = c .before .before .before .before .before in
+    let at-real-of = at-real-of in
     let start = at-real-of .before .before .before .before in
     let a = start .args in
     let m = machine (a .storage .now) (a .keys .now) in (
@@ -33,11 +35,13 @@ resolved c =
 
 abbrev consulted : (c : tie.After-known-told2)
     → let at-match = c .before .before .before .before .before .before .before .before .before .before in
+    let at-match = at-match in
     let start = at-match .before .before .before .before .before .before .before in
     Here start
 unfolding access resolved
 consulted c =
     let at-after = c .before .before .before in
+    let at-after = at-after in
     let at-consult-key = at-after .before .before .before in
     let at-known-told = at-consult-key .before .before in
     let start = at-known-told .before .before .before .before .before .before .before .before .before in
@@ -66,6 +70,7 @@ returns : tie.Need-returns
 unfolding access
 returns c =
     let at-real-of = c .before .before .before .before in
+    let at-real-of = at-real-of in
     let start = at-real-of .before .before .before .before in
     let a = start .args in
     let m = machine (a .storage .now) (a .keys .now) in
@@ -77,6 +82,7 @@ returns-2 : tie.Need-returns-2
 unfolding access resolved
 returns-2 c =
     let at-after = c .before .before in
+    let at-after = at-after in
     let at-consult-key = at-after .before .before .before in
     let at-known-told = at-consult-key .before .before in
     let start = at-known-told .before .before .before .before .before .before .before .before .before in
@@ -91,6 +97,7 @@ returns-3 : tie.Need-returns-3
 unfolding access resolved consulted
 returns-3 c =
     let at-known-told2 = c .before .before .before in
+    let at-known-told2 = at-known-told2 in
     settles _ (pass _ _ _ (consulted at-known-told2 .3) (ap not (sym (passing (c .before)) ∙ c .if1 .taken)))
 
 returns-4 : tie.Need-returns-4

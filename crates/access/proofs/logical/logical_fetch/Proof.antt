@@ -8,11 +8,13 @@ use Rattle.access.proofs.logical.logical_fetch.Tie as tie
 
 abbrev tested : (c : tie.After-known-told)
     → let start = c .before .before .before .before .before .before .before .before .before in
+    let start = start in
     let a = start .args in Left (machine (a .storage .now) (a .keys .now))
     (logicalFetch (a .guest) (a .at) (bytesIn (a .width)))
 unfolding logicalFetch
 tested c =
     let at-access = c .before .before .before .before .before in
+    let at-access = at-access in
     let start = at-access .before .before .before .before in
     let a = start .args in
     let m = machine (a .storage .now) (a .keys .now) in (
@@ -28,6 +30,7 @@ returns : tie.Need-returns
 unfolding logicalFetch
 returns c =
     let at-access = c .before .before .before .before in
+    let at-access = at-access in
     let start = at-access .before .before .before .before in
     let a = start .args in
     let m = machine (a .storage .now) (a .keys .now) in
@@ -39,6 +42,7 @@ returns-2 : tie.Need-returns-2
 unfolding logicalFetch tested
 returns-2 c =
     let at-fetch = c .before .before .before in
+    let at-fetch = at-fetch in
     let at-known-told = at-fetch .before .before in
     let start = at-known-told .before .before .before .before .before .before .before .before .before in
     let s = start .args .storage .now in

@@ -10,6 +10,7 @@ returns : tie.Need-returns
 unfolding realOf
 returns c =
     let at-translate = c .before .before in
+    let at-translate = at-translate in
     let at-if1 = at-translate .before .before in
     let start = at-if1 .before .before .before .before in
     let a = start .args in
@@ -22,6 +23,7 @@ returns-2 : tie.Need-returns-2
 unfolding realOf
 returns-2 c =
     let start = c .before .before .before .before in
+    let start = start in
     let a = start .args in
     let m = machine (a .storage .now) (a .keys .now) in
     settles _ (rejected _ _ _ (begin m (realOf (a .guest) (a .at))) (sym (c .before .dat-on .ensures) ∙ c .if1 .left))

@@ -3,7 +3,11 @@ use Rattle.access.proofs.logical.second_halfword.Statement.{statement}
 use Rattle.access.proofs.logical.second_halfword.Tie as tie
 
 returns : tie.Need-returns
-returns c = simp (c .before .before .before .before .sum .ensures, c .before .before .before .before .before .instruction-address .ensures) at (c .before .before .logical-fetch .ensures)
+returns c =
+    let at-logical-fetch = c .before .before in
+    let at-sum = at-logical-fetch .before .before in
+    simp (at-sum .sum .ensures, at-sum .before .instruction-address .ensures) at
+    (at-logical-fetch .logical-fetch .ensures)
 
 pub second-halfword-spec : {M : Type 1} → statement M
 second-halfword-spec =

@@ -18,6 +18,7 @@ Here c =
 -- what the fetch of the entry says
 entry-told : (c : tie.After-fetch)
     → let start = c .before .before .before .before .before in
+    let start = start in
     let a = start .args in
     let m = machine (a .storage .now) (a .keys .now) in
     told (c .fetch .result) (a .storage .now) (c .fetch .last .1 .0)
@@ -27,10 +28,12 @@ entry-told c = fresh _ _ (simp (c .before .before .page-entry-at .ensures) at (c
 -- step 5: the entry
 abbrev entered : (c : tie.After-known-told)
     → let start = c .before .before .before .before .before .before .before .before .before .before in
+    let start = start in
     Here start
 unfolding pageAddress
 entered c =
     let at-fetch = c .before .before .before .before .before in
+    let at-fetch = at-fetch in
     let start = at-fetch .before .before .before .before .before in
     let a = start .args in
     let m = machine (a .storage .now) (a .keys .now) in
@@ -45,11 +48,13 @@ entered c =
 
 abbrev valid : (c : tie.Else1)
     → let at-slice-known = c .before .before .before .before .before .before .before .before .before .before in
+    let at-slice-known = at-slice-known in
     let start = at-slice-known .before .before in
     Here start
 unfolding pageAddress entered
 valid c =
     let at-known-told = c .before .before in
+    let at-known-told = at-known-told in
     (_, _, _, pass _ _ _ (entered at-known-told .3) (sym (c .before .is-invalid .ensures) ∙ c .if1 .left))
 
 returns : tie.Need-returns

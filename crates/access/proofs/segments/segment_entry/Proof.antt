@@ -30,22 +30,26 @@ reached c on =
 -- what the fetch of the entry says
 entry-told : (c : tie.After-item) (on : SegmentFault → Ending)
     → let start = c .before .before .before .before .before .before .before in
+    let start = start in
     let a = start .args in
     let m = machine (a .storage .now) (a .keys .now) in
     told (fetchedAs (c .item .result) (on SegmentEntryMissing)) (a .storage .now) (c .item .last .1 .0)
     ≡ seen (fetchBytes (segmentEntryAt (a .format) (a .table) (a .at)) 4 (on SegmentEntryMissing)) m
 entry-told c on =
     let at-segment-entry-at = c .before .before in
+    let at-segment-entry-at = at-segment-entry-at in
     simp (at-segment-entry-at .segment-entry-at .ensures) at (c .item .ensures (on SegmentEntryMissing))
 
 -- the entry of step 3
 abbrev entered : (c : tie.After-known-told) (on : SegmentFault → Ending)
     → let at-slice-known = c .before .before .before .before .before .before .before .before .before .before in
+    let at-slice-known = at-slice-known in
     let start = at-slice-known .before .before in
     Here start on
 unfolding segmentEntry reached
 entered c on =
     let at-item = c .before .before .before .before .before in
+    let at-item = at-item in
     let at-if1 = at-item .before .before .before in
     let start = at-if1 .before .before .before .before in
     let e = on SegmentEntryMissing in (
@@ -59,6 +63,7 @@ entered c on =
 
 abbrev valid : (c : tie.Else2) (on : SegmentFault → Ending)
     → let at-is-beyond-segments = c .before .before .before .before .before .before .before .before .before .before in
+    let at-is-beyond-segments = at-is-beyond-segments in
     let start = at-is-beyond-segments .before .before .before in
     Here start on
 unfolding segmentEntry reached entered
@@ -66,6 +71,7 @@ valid c on = (_, _, _, pass _ _ _ (entered (c .before) on .3) (ne-eqb _ _ (c .if
 
 abbrev formed : (c : tie.Else3) (on : SegmentFault → Ending)
     → let at-if1 = c .before .before .before .before .before .before .before .before .before .before in
+    let at-if1 = at-if1 in
     let start = at-if1 .before .before .before .before in
     Here start on
 unfolding segmentEntry reached entered valid
@@ -84,6 +90,7 @@ returns-2 : tie.Need-returns-2
 unfolding segmentEntry reached
 returns-2 c =
     let at-item = c .before .before .before .before in
+    let at-item = at-item in
     let at-if1 = at-item .before .before .before in
     let start = at-if1 .before .before .before .before in
     λ on.
@@ -104,12 +111,14 @@ returns-5 : tie.Need-returns-5
 unfolding segmentEntry reached entered valid formed
 returns-5 c =
     let at-if3 = c .before .before in
+    let at-if3 = at-if3 in
     λ on. stops _ _ _ (formed at-if3 on .3) (sym (c .before .is-beyond-pages .ensures) ∙ c .if4 .taken)
 
 returns-6 : tie.Need-returns-6
 unfolding segmentEntry reached entered valid formed
 returns-6 c =
     let at-if3 = c .before .before in
+    let at-if3 = at-if3 in
     λ on. settles _ (pass _ _ _ (formed at-if3 on .3) (sym (c .before .is-beyond-pages .ensures) ∙ c .if4 .left))
 
 pub segment-entry-spec : {M : Type 1} → statement M

@@ -15,6 +15,7 @@ Here c =
 -- step 1: the format
 abbrev formed : (c : tie.After-known-told)
     → let start = c .before .before .before .before .before .before in
+    let start = start in
     Here start
 unfolding translate
 formed c =
@@ -33,6 +34,7 @@ formed c =
 -- what the walk to the segment entry says
 segment-told : (c : tie.After-excepted)
     → let at-segment-entry = c .before .before .before in
+    let at-segment-entry = at-segment-entry in
     let at-format = at-segment-entry .before .before .before in
     let start = at-format .before .before .before .before .before in
     let a = start .args in
@@ -41,6 +43,7 @@ segment-told : (c : tie.After-excepted)
     ≡ more 0 (seen (segmentEntry (segmentException (a .at)) (at-format .format .given .0 .0) (a .cr1) (a .at)) m)
 segment-told c =
     let at-segment-entry = c .before .before .before in
+    let at-segment-entry = at-segment-entry in
     let start = at-segment-entry .before .before .before .before .before .before .before .before in
     let a = start .args in
     fresh _ _ (ap (λ r. told r (a .storage .now) (at-segment-entry .segment-entry .last .1 .0)) (c .excepted .ensures)
@@ -49,18 +52,21 @@ segment-told c =
 -- steps 2 to 4
 abbrev found : (c : tie.After-known-told2)
     → let at-match = c .before .before .before .before .before .before .before .before .before .before in
+    let at-match = at-match in
     let start = at-match .before .before .before .before in
     Here start
 unfolding translate formed
 found c =
     let at-excepted = c .before .before .before in
+    let at-excepted = at-excepted in
     let at-segment-entry = at-excepted .before .before .before in
     let at-known-told = at-segment-entry .before .before in
     let start = at-known-told .before .before .before .before .before .before in (
       _,
       _,
       _,
-      step (at-excepted .excepted .result) (start .args .storage .now) (at-segment-entry .segment-entry .last .1 .0) _ _
+      step (at-excepted .excepted .result) (start .args .storage .now)
+          (at-segment-entry .segment-entry .last .1 .0) _ _
           (formed at-known-told .3)
           (segment-told at-excepted) (c .before .segment .given .1),
     )
@@ -69,6 +75,7 @@ returns : tie.Need-returns
 unfolding translate
 returns c =
     let at-format-of = c .before .before in
+    let at-format-of = at-format-of in
     let start = at-format-of .before .before .before in
     let a = start .args in
     let m = machine (a .storage .now) (a .keys .now) in
@@ -90,6 +97,7 @@ returns-3 : tie.Need-returns-3
 unfolding translate formed found
 returns-3 c =
     let at-page-address = c .before .before .before in
+    let at-page-address = at-page-address in
     let at-known-told2 = at-page-address .before .before in
     let at-match = at-known-told2 .before .before .before .before .before .before .before .before .before .before in
     let start = at-match .before .before .before .before in

@@ -29,17 +29,26 @@ pub record Numbers : Type 0 where
   -- the logical address that codes 16 and 17 carry; zero elsewhere
   pub address : ℕ
 
-abbrev pub interrupted : Exception → Numbers
-interrupted PrivilegedOperation = record { number = 1; code = 2; address = 0 }
-interrupted Protection = record { number = 1; code = 4; address = 0 }
-interrupted Addressing = record { number = 1; code = 5; address = 0 }
-interrupted (SegmentTranslation a) = record { number = 1; code = 16; address = a }
-interrupted (PageTranslation a) = record { number = 1; code = 17; address = a }
-interrupted TranslationSpecification = record { number = 1; code = 18; address = 0 }
+-- the interruption code
+abbrev pub codeOf : Exception → ℕ
+codeOf PrivilegedOperation = 2
+codeOf Protection = 4
+codeOf Addressing = 5
+codeOf (SegmentTranslation _) = 16
+codeOf (PageTranslation _) = 17
+codeOf TranslationSpecification = 18
+
+abbrev pub addressOf : Exception → ℕ
+addressOf (SegmentTranslation a) = a
+addressOf (PageTranslation a) = a
+addressOf PrivilegedOperation = 0
+addressOf Protection = 0
+addressOf Addressing = 0
+addressOf TranslationSpecification = 0
 
 abbrev pub numbers : Ending → Numbers
 numbers Completed = record { number = 0; code = 0; address = 0 }
-numbers (Interruption e) = interrupted e
+numbers (Interruption e) = record { number = 1; code = codeOf e; address = addressOf e }
 numbers Expanded = record { number = 2; code = 0; address = 0 }
 numbers (FieldMissing step) = record { number = 3; code = step; address = 0 }
 numbers WrongMode = record { number = 9; code = 0; address = 0 }

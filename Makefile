@@ -1,10 +1,28 @@
-# make edges: the edges of document 01, and what each gives.  make test: everything that is tested; the gate.
+# make edges: the edges of document 01, run through the proved library.
+# make vectors SEED=n: random calls, run and compared with the second program; what they reached.
+# make test: everything that is tested; the gate.
+# make expected: writes the stored expected outputs anew, with the second program.
 
-.PHONY: edges test
+.PHONY: edges vectors test expected
+
+SEED ?= 1
+CALLS ?= 10000
 
 edges:
-	cd second && cargo run --quiet --release -- edges
+	rt check edges
+	tools/proved edges
+	tools/proved edges large
+
+vectors:
+	rt check vectors
+	tools/compare-vectors --seed $(SEED) --calls $(CALLS)
+	tools/compare-vectors --seed $(SEED) --large
 
 test:
 	cd second && cargo test --quiet
-	rt ci
+	tools/compare-stored
+	tools/gate
+
+expected:
+	tools/second edges >crates/edges/stdout
+	tools/second vectors --seed 1 --calls 10000 --out crates/vectors

@@ -2,8 +2,9 @@
 
 use std::collections::BTreeMap;
 
+use crate::address::bytes_of_item;
 use crate::attempt::{Answer, Instruction};
-use crate::call::Call;
+use crate::call::{Call, Request};
 use crate::generate::generate;
 use crate::translation::Format;
 
@@ -29,15 +30,16 @@ pub struct Tally {
 }
 
 impl Tally {
-    pub fn add(&mut self, call: &Call, answer: &Answer) {
-        let column = column(call.request.first_halfword);
+    /// Count one call. `micrseg` is what MICRSEG held before it (see `micrseg`).
+    pub fn add(&mut self, request: &Request, micrseg: u32, answer: &Answer) {
+        let column = column(request.first_halfword);
         let outcome = (answer.ending.number(), answer.ending.code_or_step());
         let completed = u64::from(outcome.0 == 0);
         self.calls += 1;
         self.completed += completed;
         *self.outcomes.entry((outcome, column)).or_default() += 1;
-        *self.points.entry((column, outcome, answer.at_step, answer.at_walk_step)).or_default() += 1;
-        for state in [translation_words(call)].into_iter().chain(real_table_words(call)) {
+        *self.points.entry(point(request, answer)).or_default() += 1;
+        for state in [translation_words(request)].into_iter().chain(real_table_words(request, micrseg)) {
             let (calls, completions) = self.translation.entry((column, state)).or_default();
             *calls += 1;
             *completions += completed;
@@ -48,9 +50,11 @@ impl Tally {
     pub fn of_random_calls(seed: u64, calls: u64) -> Tally {
         let mut tally = Tally::default();
         for index in 0..calls {
-            let call = generate(seed, index);
-            let answer = call.make();
-            tally.add(&call, &answer);
+            let Call { image, request } = generate(seed, index);
+            let (mut storage, mut keys) = (image.storage(), image.key_bytes());
+            let micrseg = micrseg(&storage, &request);
+            let answer = request.make(&mut storage, &mut keys);
+            tally.add(&request, micrseg, &answer);
         }
         tally
     }
@@ -115,8 +119,22 @@ pub fn column(first_halfword: u16) -> &'static str {
     Instruction::of_first_halfword(first_halfword).map_or("other", Instruction::mnemonic)
 }
 
-fn translation_words(call: &Call) -> &'static str {
-    let guest = &call.request.guest;
+/// Where an attempt ended.
+pub fn point(request: &Request, answer: &Answer) -> Point {
+    let outcome = (answer.ending.number(), answer.ending.code_or_step());
+    (column(request.first_halfword), outcome, answer.at_step, answer.at_walk_step)
+}
+
+/// The word MICRSEG in this storage, with zeros for bytes that are not there.
+pub fn micrseg(storage: &[u8], request: &Request) -> u32 {
+    let bytes = bytes_of_item(request.guest.micblok_address(), 4);
+    bytes
+        .iter()
+        .fold(0, |word, &byte| (word << 8) | u32::from(storage.get(byte as usize).copied().unwrap_or(0)))
+}
+
+fn translation_words(request: &Request) -> &'static str {
+    let guest = &request.guest;
     if !guest.dat_on() {
         return "DAT off";
     }
@@ -130,9 +148,8 @@ fn translation_words(call: &Call) -> &'static str {
 }
 
 /// For SSK, the segment size that MICRSEG chooses.
-fn real_table_words(call: &Call) -> Option<&'static str> {
-    let ssk = Instruction::of_first_halfword(call.request.first_halfword) == Some(Instruction::SetStorageKey);
-    let micrseg = call.image.word(call.request.guest.micblok_address());
+fn real_table_words(request: &Request, micrseg: u32) -> Option<&'static str> {
+    let ssk = Instruction::of_first_halfword(request.first_halfword) == Some(Instruction::SetStorageKey);
     ssk.then_some(if micrseg & 1 == 1 { "MICRSEG, 4K, 1M" } else { "MICRSEG, 4K, 64K" })
 }
 

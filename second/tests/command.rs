@@ -17,6 +17,15 @@ fn wrong_arguments_give_usage_and_status_2() {
         &["report", "--calls", "-1"],
         &["report", "--other", "1"],
         &["report", "7"],
+        &["report", "--large"],
+        &["report", "--out", "."],
+        &["edges", "--large", "--large"],
+        &["edges", "--seed", "1"],
+        &["vectors"],
+        &["vectors", "--out"],
+        &["vectors", "--out", ".", "--calls", "many"],
+        &["damage"],
+        &["damage", "--out", ".", "--seed", "1"],
     ] {
         let output = second(arguments);
         assert_eq!(output.status.code(), Some(2), "{arguments:?}");
@@ -27,13 +36,86 @@ fn wrong_arguments_give_usage_and_status_2() {
 
 #[test]
 fn edges_prints_one_line_each() {
-    let output = second(&["edges"]);
-    assert_eq!(output.status.code(), Some(0));
-    let text = String::from_utf8_lossy(&output.stdout).into_owned();
-    assert_eq!(text.lines().count(), second::edges::all().len());
+    for (arguments, edges) in
+        [(&["edges"][..], second::edges::small()), (&["edges", "--large"], second::edges::large())]
+    {
+        let output = second(arguments);
+        assert_eq!(output.status.code(), Some(0));
+        let text = String::from_utf8_lossy(&output.stdout).into_owned();
+        let lines: Vec<String> = edges.iter().map(|edge| edge.line()).collect();
+        assert_eq!(text.lines().collect::<Vec<_>>(), lines);
+    }
+}
+
+#[test]
+fn edge_lines_have_their_form() {
+    let text = String::from_utf8_lossy(&second(&["edges"]).stdout).into_owned();
     let line = "SSM   (*) EC, old 04, new 07 | ending 0 completed | count 9 | next 001004 | \
                 bytes: 000600: 04 -> 07; keys: none";
     assert!(text.lines().any(|one| one == line));
+    let text = String::from_utf8_lossy(&second(&["edges", "--large"]).stdout).into_owned();
+    let line = "STCTL storage one block over 16 MiB | ending 10 storage size | count 0 | next 001000 | \
+                bytes: none; keys: none";
+    assert!(text.lines().any(|one| one == line));
+}
+
+/// A new directory below the build's own.
+fn new_directory(name: &str) -> String {
+    let path = format!("{}/{name}", env!("CARGO_TARGET_TMPDIR"));
+    let _ = std::fs::remove_dir_all(&path);
+    std::fs::create_dir_all(&path).expect("a directory for the test");
+    path
+}
+
+#[test]
+fn too_few_calls_and_no_directory_give_status_1() {
+    let directory = new_directory("refused");
+    for (arguments, message) in [
+        (
+            &["vectors", "--calls", "1999", "--out", &directory][..],
+            "second: a set has at least 2000 calls, not 1999\n",
+        ),
+        (
+            &["vectors", "--large", "--calls", "49", "--out", &directory],
+            "second: a set has at least 50 calls, not 49\n",
+        ),
+        (&["vectors", "--out", "/no/such"], "second: no such directory: /no/such\n"),
+        (&["damage", "--out", "/no/such"], "second: no such directory: /no/such\n"),
+    ] {
+        let output = second(arguments);
+        assert_eq!(output.status.code(), Some(1), "{arguments:?}");
+        assert!(output.stdout.is_empty());
+        assert_eq!(String::from_utf8_lossy(&output.stderr), message);
+    }
+    assert_eq!(std::fs::read_dir(&directory).expect("the directory").count(), 0);
+}
+
+#[test]
+fn vectors_are_the_same_for_the_same_seed_only() {
+    let write = |name: &str, seed: &str| {
+        let directory = new_directory(name);
+        let output = second(&["vectors", "--seed", seed, "--calls", "2000", "--out", &directory]);
+        assert_eq!(output.status.code(), Some(0));
+        let read = |file: &str| std::fs::read(format!("{directory}/{file}")).expect("a file was written");
+        (read("stdin"), read("stdout"), output.stdout)
+    };
+    let first = write("seed-5", "5");
+    assert_eq!(first, write("seed-5-again", "5"));
+    let other = write("seed-6", "6");
+    assert!(first.0 != other.0 && first.1 != other.1 && first.2 != other.2);
+    assert!(first.2.starts_with(b"seed 5: ") && first.1.ends_with(b"\n2000 calls\n"));
+}
+
+#[test]
+fn damage_writes_every_case() {
+    let directory = new_directory("damage");
+    assert_eq!(second(&["damage", "--out", &directory]).status.code(), Some(0));
+    for case in second::damaged::all() {
+        let read = |kind: &str| {
+            std::fs::read_to_string(format!("{directory}/{}.{kind}", case.name)).expect("a file")
+        };
+        assert_eq!((read("stdin"), read("stdout")), case.texts());
+    }
 }
 
 #[test]

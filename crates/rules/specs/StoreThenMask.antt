@@ -11,8 +11,8 @@ use Rattle.rules.specs.Endings.{refuse}
 use Rattle.rules.specs.Steps.{Steps, _>>=_, _>>_, stopIf, endingAs}
 use Rattle.rules.specs.Access.{storeTest, secondHalfword}
 use Rattle.rules.specs.ControlFields.{controlHalfword, micvpsw, addressIn, pending}
-pub use Rattle.rules.specs.declared.masks.MaskChange.{MaskChange}
-pub use Rattle.rules.specs.declared.masks.MaskChange.the-variants.{And, Or}
+pub use Rattle.rules.specs.declared.mask_change.MaskChange.{MaskChange}
+pub use Rattle.rules.specs.declared.mask_change.MaskChange.the-variants.{And, Or}
 use Rattle.rules.specs.Masks.{maskIn, extendedIn, atAny, allBits, rises, falls}
 use Rattle.rules.specs.StoreControl.{assistsControl}
 use Rattle.rules.specs.Call.{Call, expanded, immediate, Completion, complete}

@@ -6,7 +6,7 @@ mod call;
 mod endings;
 mod guest;
 mod keys;
-mod masks;
+mod mask_change;
 mod tables;
 
 pub use addresses::difference;
@@ -17,7 +17,7 @@ pub use endings::Ending;
 pub use endings::Exception;
 pub use guest::Guest;
 pub use keys::KeyUse;
-pub use masks::MaskChange;
+pub use mask_change::MaskChange;
 pub use tables::Format;
 pub use tables::PageFault;
 pub use tables::PageSize;

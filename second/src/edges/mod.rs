@@ -1,6 +1,6 @@
 //! Every edge of document 01, section "Edges to show", as a concrete call.
 
-mod impostors;
+mod large;
 mod mask_edges;
 mod storage_key_edges;
 mod store_control_edges;
@@ -10,14 +10,13 @@ use crate::attempt::{Answer, Instruction};
 use crate::call::{changes, Change, Request, StorageImage};
 use crate::setup::Setup;
 
-/// One edge: a call, after earlier calls on the same storage where it belongs to a list.
+/// One edge: a call on its own storage.
 pub struct Edge {
     /// The case in words; no two edges have the same instruction and case.
     pub case: String,
     /// Marked (*) in document 01.
     pub marked: bool,
     pub image: StorageImage,
-    pub earlier: Vec<Request>,
     pub request: Request,
 }
 
@@ -30,27 +29,17 @@ pub struct EdgeResult {
 
 impl Edge {
     fn new(marked: bool, case: &str, setup: &Setup) -> Edge {
-        Edge {
-            case: case.into(),
-            marked,
-            image: setup.image.clone(),
-            earlier: Vec::new(),
-            request: setup.request(),
-        }
+        Edge { case: case.into(), marked, image: setup.image.clone(), request: setup.request() }
     }
 
     pub fn mnemonic(&self) -> &'static str {
         Instruction::of_first_halfword(self.request.first_halfword).map_or("other", Instruction::mnemonic)
     }
 
-    /// Make the earlier calls, then the edge's own; the changes are those of the edge's own call.
+    /// Make the call.
     pub fn run(&self) -> EdgeResult {
-        let mut storage = self.image.storage();
-        let mut keys = self.image.key_bytes();
-        for request in &self.earlier {
-            request.make(&mut storage, &mut keys);
-        }
-        let (storage_before, keys_before) = (storage.clone(), keys.clone());
+        let (storage_before, keys_before) = (self.image.storage(), self.image.key_bytes());
+        let (mut storage, mut keys) = (storage_before.clone(), keys_before.clone());
         let answer = self.request.make(&mut storage, &mut keys);
         EdgeResult { answer, bytes: changes(&storage_before, &storage), keys: changes(&keys_before, &keys) }
     }
@@ -83,12 +72,16 @@ fn change_words(title: &str, digits: usize, list: &[Change]) -> String {
     format!("{title}: {}", words.join(", "))
 }
 
-/// All edges.
-pub fn all() -> Vec<Edge> {
+/// The edges that need at most 4,194,304 bytes of storage.
+pub fn small() -> Vec<Edge> {
     let mut edges = store_control_edges::edges();
     edges.extend(mask_edges::edges());
     edges.extend(storage_key_edges::edges());
     edges.extend(wrong_turns::edges());
-    edges.extend(impostors::edges());
     edges
+}
+
+/// The edges in more storage than that.
+pub fn large() -> Vec<Edge> {
+    large::edges()
 }

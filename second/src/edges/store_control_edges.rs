@@ -1,4 +1,4 @@
-//! STCTL edges.
+//! STCTL edges; those in 16 MiB are in `large`.
 
 use super::Edge;
 use crate::setup::Setup;
@@ -8,11 +8,6 @@ pub fn edges() -> Vec<Edge> {
         Edge::new(true, "R1=14, R3=1: registers 14, 15, 0, 1", &Setup::stctl(14, 1)),
         Edge::new(true, "R1=R3=5: one register", &Setup::stctl(5, 5)),
         Edge::new(true, "R1=1, R3=0: sixteen registers", &Setup::stctl(1, 0)),
-        Edge::new(
-            false,
-            "operand FFFFFC, two registers, 16 MiB, key zero: goes round to 000000",
-            &Setup::stctl_in(6, 7, 0x100_0000).operand(0xFF_FFFC),
-        ),
         Edge::new(
             false,
             "operand 3FFFFC, two registers, 4 MiB: second word not in storage",

@@ -70,7 +70,7 @@ fn logical_of(draft: &mut Draft, mapping: &mut Option<Mapping>, real: u32) -> u3
 }
 
 /// Make the key of a block permit a fetch or a store.
-fn permit(draft: &mut Draft, real: u32, store: bool) {
+pub fn permit(draft: &mut Draft, real: u32, store: bool) {
     let (number, psw_key) = (real / 2048, draft.guest.psw_key() as u8);
     let key = draft.image.key(number);
     if psw_key == 0 || key >> 4 == psw_key {

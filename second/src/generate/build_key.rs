@@ -52,17 +52,25 @@ fn put_page_table(draft: &mut Draft, address: u32, page: u32) -> u32 {
     }
     draft.take(subtract(origin, 4), 4);
     draft.take(add(origin, 2 * page), 2);
-    let offset = address & 0xFFF;
-    let size = draft.size();
-    let frames = size.div_ceil(4096);
-    let frame = (0..40).map(|_| draft.random.below(frames)).find(|frame| (frame << 12) + offset < size);
-    let entry = match frame {
+    let entry = match frame_for(draft, address & 0xFFF) {
         Some(frame) if draft.random.percent(70) => frame << 4 | draft.random.below(2),
         _ => draft.random.below(0x1_0000) | 0x0008,
     };
     draft.image.put_halfword(add(origin, 2 * page), entry as u16);
     draft.note(Role::PageEntry, add(origin, 2 * page));
     origin
+}
+
+/// A frame of 4K in which the byte with this offset is in storage.
+fn frame_for(draft: &mut Draft, offset: u32) -> Option<u32> {
+    let frames = draft.size().div_ceil(4096);
+    for _ in 0..40 {
+        let frame = draft.random.below(frames);
+        if draft.contains((frame << 12) + offset, 1) {
+            return Some(frame);
+        }
+    }
+    None
 }
 
 fn put_swap_table(draft: &mut Draft, page_table: u32, page: u32) {

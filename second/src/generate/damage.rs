@@ -2,6 +2,7 @@
 
 use super::damage_fields::damage_field;
 use super::draft::{Draft, Role};
+use super::sizes::MOST_KEYS;
 use crate::address::{add, subtract, ADDRESS_MASK};
 
 /// One damage, chosen at random. Some damages leave a call complete.
@@ -51,10 +52,11 @@ fn storage_size(draft: &mut Draft) {
         2 => size.saturating_sub(1),
         3 => size + 1024,
         4 => 1024,
-        5 if size >= 0x10_0000 => 0x100_0000 + 2048,
+        5 if size >= 0x10_0000 && draft.largest > 0x100_0000 => 0x100_0000 + 2048,
         6 => size + 2048,
         _ => 2047,
     };
+    draft.image.storage_size = draft.image.storage_size.min(draft.largest);
     if draft.random.percent(50) {
         draft.image.key_count = draft.image.storage_size / 2048;
     }
@@ -62,7 +64,8 @@ fn storage_size(draft: &mut Draft) {
 
 fn key_count(draft: &mut Draft) {
     let count = draft.image.key_count;
-    draft.image.key_count = draft.random.pick(&[0, count + 1, count.saturating_sub(1), count / 2, count * 2]);
+    let other = draft.random.pick(&[0, count + 1, count.saturating_sub(1), count / 2, count * 2]);
+    draft.image.key_count = other.min(MOST_KEYS);
 }
 
 /// A proper size that leaves out the topmost blocks.

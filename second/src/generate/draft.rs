@@ -37,23 +37,32 @@ pub struct Draft {
     pub expanded: bool,
     /// Items of the request being drafted.
     pub places: Vec<Place>,
+    /// Damage makes storage no larger than this.
+    pub largest: usize,
+    /// The blocks in which items may be placed, by number; empty for all.
+    pub part: Vec<bool>,
     /// Start and length of what is taken.
     used: Vec<(u32, u32)>,
 }
 
-const SMALL_SIZES: [u32; 12] = [1, 1, 1, 2, 2, 2, 3, 4, 4, 8, 16, 32];
-
 impl Draft {
-    /// Random storage size and keys, random record; nothing is set up yet.
-    pub fn new(mut random: Random) -> Draft {
-        let size = storage_size(&mut random);
-        let mut image = StorageImage::new(size as usize);
-        for number in 0..(size / 2048).min(32) {
+    /// Storage of some size with random keys, random record; nothing is set up yet.
+    pub fn new(mut random: Random, size: usize, largest: usize) -> Draft {
+        let mut image = StorageImage::new(size);
+        for number in 0..(size as u32 / 2048).min(32) {
             image.put_key(number, random.byte());
         }
-        let guest = random_guest(&mut random);
-        let (places, used) = (Vec::new(), Vec::new());
-        Draft { random, image, guest, first_halfword: 0, expanded: false, places, used }
+        Draft {
+            guest: random_guest(&mut random),
+            random,
+            image,
+            first_halfword: 0,
+            expanded: false,
+            places: Vec::new(),
+            largest,
+            part: Vec::new(),
+            used: Vec::new(),
+        }
     }
 
     /// Another request on the same storage.
@@ -88,9 +97,10 @@ impl Draft {
         }
     }
 
-    /// Is every byte of the item in storage?
+    /// Is every byte of the item in storage, and in the part that the draft keeps to?
     pub fn contains(&self, address: u32, length: u32) -> bool {
-        bytes_of_item(address, length).iter().all(|&byte| byte < self.size())
+        let in_part = |byte: u32| self.part.is_empty() || self.part[(byte / 2048) as usize];
+        bytes_of_item(address, length).iter().all(|&byte| byte < self.size() && in_part(byte))
     }
 
     /// In storage, and no byte is taken.
@@ -137,17 +147,6 @@ impl Draft {
     pub fn block_alignment(&mut self) -> u32 {
         let alignments = if self.size() > ADDRESS_MASK { [8, 4, 2, 1, 1, 1] } else { [8, 8, 8, 4, 2, 1] };
         self.random.pick(&alignments)
-    }
-}
-
-/// Mostly small sizes, some of 1 MiB and 4 MiB, a few of 16 MiB.
-fn storage_size(random: &mut Random) -> u32 {
-    match random.below(100) {
-        0..=69 => random.pick(&SMALL_SIZES) * 2048,
-        70..=89 => (1 + random.below(32)) * 2048,
-        90..=95 => 0x10_0000,
-        96 => 0x40_0000,
-        _ => 0x100_0000,
     }
 }
 

@@ -5,13 +5,19 @@ mod build_key;
 mod damage;
 mod damage_fields;
 mod draft;
+mod pair;
 mod random;
+mod sizes;
 mod tables;
+mod twin;
 
 use crate::attempt::Instruction;
 use crate::call::{Call, Request, StorageImage};
 use draft::Draft;
-use random::Random;
+
+pub use pair::generate_pair;
+pub use random::Random;
+pub use sizes::{SizeBudget, LARGEST, LARGEST_LARGE, MIB, MOST_KEYS};
 
 /// Share of the calls that are damaged, in percent.
 const DAMAGED: u32 = 75;
@@ -25,29 +31,59 @@ pub struct Chain {
 
 /// The call with this index of a seed.
 pub fn generate(seed: u64, index: u64) -> Call {
-    let mut draft = Draft::new(Random::new(seed, index));
+    damaged_in_part(undamaged(seed, index)).call()
+}
+
+/// The same call before any damage.
+pub fn generate_undamaged(seed: u64, index: u64) -> Call {
+    undamaged(seed, index).call()
+}
+
+/// A call in storage of this size, which damage makes no larger than `largest`.
+pub fn generate_of_size(seed: u64, index: u64, size: usize, largest: usize) -> Call {
+    damaged_in_part(built(Draft::new(Random::new(seed, index), size, largest))).call()
+}
+
+fn undamaged(seed: u64, index: u64) -> Draft {
+    let mut random = Random::new(seed, index);
+    let size = sizes::any_size(&mut random);
+    built(Draft::new(random, size, LARGEST_LARGE))
+}
+
+fn built(mut draft: Draft) -> Draft {
     let instruction = draft.random.pick(&Instruction::ALL);
     build::build(&mut draft, instruction);
+    draft
+}
+
+fn damaged_in_part(mut draft: Draft) -> Draft {
     if draft.random.percent(DAMAGED) {
         damage::damage(&mut draft);
         if draft.random.percent(30) {
             damage::damage(&mut draft);
         }
     }
-    draft.call()
+    draft
 }
 
-/// The same call before any damage.
-pub fn generate_undamaged(seed: u64, index: u64) -> Call {
-    let mut draft = Draft::new(Random::new(seed, index));
-    let instruction = draft.random.pick(&Instruction::ALL);
-    build::build(&mut draft, instruction);
-    draft.call()
-}
-
-/// A list of calls on one storage; some repeat an earlier request.
+/// A list of calls on one storage of any size.
 pub fn generate_chain(seed: u64, index: u64, length: usize) -> Chain {
-    let mut draft = Draft::new(Random::new(seed ^ 0x6368_6169_6E00_0000, index));
+    let mut random = chain_random(seed, index);
+    let size = sizes::any_size(&mut random);
+    chain(Draft::new(random, size, LARGEST_LARGE), length)
+}
+
+/// A list of calls on one storage of this size.
+pub fn generate_chain_of_size(seed: u64, index: u64, length: usize, size: usize) -> Chain {
+    chain(Draft::new(chain_random(seed, index), size, size), length)
+}
+
+fn chain_random(seed: u64, index: u64) -> Random {
+    Random::new(seed ^ 0x6368_6169_6E00_0000, index)
+}
+
+/// Some calls of a list repeat an earlier request.
+fn chain(mut draft: Draft, length: usize) -> Chain {
     let mut requests: Vec<Request> = Vec::new();
     while requests.len() < length {
         if !requests.is_empty() && draft.random.percent(25) {
@@ -56,15 +92,18 @@ pub fn generate_chain(seed: u64, index: u64, length: usize) -> Chain {
             continue;
         }
         draft.start_request();
-        let instruction = draft.random.pick(&Instruction::ALL);
-        build::build(&mut draft, instruction);
-        let sizes = (draft.image.storage_size, draft.image.key_count);
+        draft = built(draft);
         if draft.random.percent(30) {
-            damage::damage(&mut draft);
+            damage_but_sizes(&mut draft);
         }
-        // Sizes belong to the whole list and stay as they are.
-        (draft.image.storage_size, draft.image.key_count) = sizes;
         requests.push(draft.request());
     }
     Chain { image: draft.image, requests }
+}
+
+/// Sizes belong to the whole list and stay as they are.
+fn damage_but_sizes(draft: &mut Draft) {
+    let sizes = (draft.image.storage_size, draft.image.key_count);
+    damage::damage(draft);
+    (draft.image.storage_size, draft.image.key_count) = sizes;
 }

@@ -3,12 +3,13 @@
 //! Set-up (see `setup.rs`): 16 KiB, PSW key zero, DAT off, instruction at 1000, operand at 2000, MICBLOK at 400,
 //! ECBLOK at 500, virtual PSW at 600. Virtual register r is the word A0B0C0D0 + r times 01010101.
 
+#[path = "../common/expected.rs"]
 mod expected;
 mod section;
 mod wrong_turns;
 
 use expected::Expected;
-use second::edges::all;
+use second::edges::{large, small, Edge};
 use section::*;
 use wrong_turns::*;
 
@@ -20,16 +21,22 @@ fn expectations() -> Vec<Expected> {
     list.extend(wrong_turns_1_and_2());
     list.extend(wrong_turn_3());
     list.extend(wrong_turn_4());
-    list.extend(impostors());
     list
 }
 
 #[test]
 fn every_edge_gives_what_the_paper_says() {
-    let expectations = expectations();
-    let edges = all();
+    check(&small(), &expectations());
+}
+
+#[test]
+fn every_edge_in_16_mib_gives_what_the_paper_says() {
+    check(&large(), &large_store_control());
+}
+
+fn check(edges: &[Edge], expectations: &[Expected]) {
     assert_eq!(edges.len(), expectations.len());
-    for expected in &expectations {
+    for expected in expectations {
         let named: Vec<_> =
             edges.iter().filter(|edge| (edge.mnemonic(), edge.case.as_str()) == expected.name).collect();
         assert_eq!(named.len(), 1, "{:?}", expected.name);
@@ -49,8 +56,16 @@ fn every_edge_gives_what_the_paper_says() {
 }
 
 #[test]
+fn storage_of_the_edges() {
+    assert!(small().iter().all(|edge| edge.image.storage_size <= 4_194_304));
+    assert!(large().iter().all(|edge| edge.image.storage_size > 4_194_304));
+    assert!(large().iter().all(|edge| edge.image.key_count == edge.image.storage_size / 2_048));
+    assert_eq!(large()[1].image.key_count, 8_193);
+}
+
+#[test]
 fn every_edge_has_one_line() {
-    for edge in all() {
+    for edge in small().into_iter().chain(large()) {
         let line = edge.line();
         assert!(line.starts_with(edge.mnemonic()) && !line.contains('\n') && line.contains(&edge.case));
     }

@@ -28,7 +28,6 @@ fn sixteen_words() -> Vec<Change> {
 pub fn store_control() -> Vec<Expected> {
     let four =
         words(&[(0x2000, 0xAEBECEDE), (0x2004, 0xAFBFCFDF), (0x2008, 0xA0B0C0D0), (0x200C, 0xA1B1C1D1)]);
-    let round = words(&[(0x000000, 0xA7B7C7D7), (0xFFFFFC, 0xA6B6C6D6)]);
     vec![
         // 1 + 2 + 4 + 4 + 4
         expect(("STCTL", "R1=14, R3=1: registers 14, 15, 0, 1"), COMPLETED, 15, &four, &[], 0x1004),
@@ -43,15 +42,6 @@ pub fn store_control() -> Vec<Expected> {
         ),
         // 1 + 2 + 16 + 16 + 16
         expect(("STCTL", "R1=1, R3=0: sixteen registers"), COMPLETED, 51, &sixteen_words(), &[], 0x1004),
-        // 1 + 2 + 2 + 2 + 2
-        expect(
-            ("STCTL", "operand FFFFFC, two registers, 16 MiB, key zero: goes round to 000000"),
-            COMPLETED,
-            9,
-            &round,
-            &[],
-            0x1004,
-        ),
         // 1 + 2 + 2 + key of the first word; the second makes no entry.
         expect(
             ("STCTL", "operand 3FFFFC, two registers, 4 MiB: second word not in storage"),
@@ -61,6 +51,26 @@ pub fn store_control() -> Vec<Expected> {
             &[],
             0x1000,
         ),
+    ]
+}
+
+/// In 16 MiB, or one block more.
+pub fn large_store_control() -> Vec<Expected> {
+    let round = words(&[(0x000000, 0xA7B7C7D7), (0xFFFFFC, 0xA6B6C6D6)]);
+    let protected = "operand FFFFF8, three registers, 16 MiB: third word at 000000 protected, nothing stored";
+    vec![
+        // 1 + 2 + 2 + 2 + 2
+        expect(
+            ("STCTL", "operand FFFFFC, two registers, 16 MiB, key zero: goes round to 000000"),
+            COMPLETED,
+            9,
+            &round,
+            &[],
+            0x1004,
+        ),
+        expect(("STCTL", "storage one block over 16 MiB"), (10, 0, 0), 0, &[], &[], 0x1000),
+        // 1 + 2 + 3 registers + 3 keys; the third protects.
+        expect(("STCTL", protected), PROTECTION, 9, &[], &[], 0x1000),
     ]
 }
 

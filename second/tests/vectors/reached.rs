@@ -1,8 +1,11 @@
-//! Everything that can be reached, written by hand from document 01, against random calls of one seed.
+//! Everything that can be reached, written by hand from document 01, against random calls of one seed, and
+//! against the very calls of the stored set.
 
 use std::collections::BTreeSet;
 
 use second::report::{Outcome, Point, Tally};
+
+use crate::stored_set_tally;
 
 const SEED: u64 = 20_260_401;
 const CALLS: u64 = 20_000;
@@ -80,9 +83,7 @@ fn points_by_hand() -> BTreeSet<Point> {
     table
 }
 
-#[test]
-fn random_calls_reach_everything_and_nothing_else() {
-    let tally = Tally::of_random_calls(SEED, CALLS);
+fn check_everything_is_reached(tally: &Tally) {
     let outcomes: BTreeSet<_> = tally.outcomes.keys().copied().collect();
     assert_eq!(outcomes, outcomes_by_hand());
     let points: BTreeSet<_> = tally.points.keys().copied().collect();
@@ -91,13 +92,9 @@ fn random_calls_reach_everything_and_nothing_else() {
     let extra: Vec<_> = points.difference(&by_hand).collect();
     assert!(missing.is_empty() && extra.is_empty(), "missing {missing:?}, extra {extra:?}");
     assert_eq!(tally.highest_count, 85);
-    let share = 100 * tally.completed / tally.calls;
-    assert!((40..=60).contains(&share), "{share} % completed");
 }
 
-#[test]
-fn every_format_completes_in_every_instruction() {
-    let tally = Tally::of_random_calls(SEED + 1, 5_000);
+fn check_every_format_completes(tally: &Tally) {
     for mnemonic in ["SSM", "STCTL", "STNSM", "STOSM"] {
         for state in ["DAT off", "DAT on, 2K, 64K", "DAT on, 2K, 1M", "DAT on, 4K, 64K", "DAT on, 4K, 1M"] {
             assert!(tally.translation[&(mnemonic, state)].1 > 20, "{mnemonic} {state}");
@@ -106,4 +103,27 @@ fn every_format_completes_in_every_instruction() {
     for state in ["MICRSEG, 4K, 64K", "MICRSEG, 4K, 1M"] {
         assert!(tally.translation[&("SSK", state)].1 > 20, "SSK {state}");
     }
+}
+
+#[test]
+fn random_calls_reach_everything_and_nothing_else() {
+    let tally = Tally::of_random_calls(SEED, CALLS);
+    check_everything_is_reached(&tally);
+    let share = 100 * tally.completed / tally.calls;
+    assert!((40..=60).contains(&share), "{share} % completed");
+}
+
+#[test]
+fn every_format_completes_in_every_instruction() {
+    check_every_format_completes(&Tally::of_random_calls(SEED + 1, 5_000));
+}
+
+#[test]
+fn the_stored_set_reaches_everything_and_nothing_else() {
+    let tally = stored_set_tally();
+    assert_eq!(tally.calls, 10_000);
+    check_everything_is_reached(tally);
+    check_every_format_completes(tally);
+    let share = 100 * tally.completed / tally.calls;
+    assert!((50..=70).contains(&share), "{share} % completed");
 }

@@ -1,4 +1,5 @@
-//! What an edge must give.
+//! What an edge or another fixed call must give.
+#![allow(dead_code)]
 
 pub type Change = (u32, u8, u8);
 

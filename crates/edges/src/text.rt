@@ -1,0 +1,37 @@
+// Text on standard output.
+use libc::STDOUT_FILENO;
+
+pub(crate) fn print(text: &[u8]) {
+    io::write_all(STDOUT_FILENO, text);
+}
+
+pub(crate) fn print_decimal(number: u32) {
+    io::print_decimal(STDOUT_FILENO, number as u64);
+}
+
+// Upper case, with zeros in front up to `width` digits.
+pub(crate) fn print_hex(number: u64, width: usize) {
+    let mut digits = [0u8; 16];
+    let n = io::hex(number, width, &mut digits);
+    print_in_upper_case(&digits[..n]);
+}
+
+fn print_in_upper_case(digits: &[u8]) {
+    let mut i = 0;
+    while i < digits.len() {
+        print_digit(digits[i]);
+        i += 1;
+    }
+}
+
+fn upper_case(digit: u8) -> u8 {
+    if digit < b'a' {
+        return digit;
+    }
+    digit - (b'a' - b'A')
+}
+
+fn print_digit(digit: u8) {
+    let character = [upper_case(digit)];
+    print(&character);
+}

@@ -1,0 +1,76 @@
+// What is printed.
+use crate::checksum;
+use crate::state::Trouble;
+use libc::STDOUT_FILENO;
+use rules::Answer;
+use rules::Guest;
+
+// The line of a call: its number, the ending, the code or step, the count, the logical address, the next address, and
+// the checksum of all that is there afterwards.
+pub fn answer(number: u32, given: Answer, sum: u32) {
+    let ending = given.ending;
+    decimal(number);
+    decimal(ending.number());
+    decimal(ending.code());
+    decimal(given.count);
+    let guest = given.guest;
+    hex(ending.address(), 6);
+    hex(guest.instruction_address(), 6);
+    io::print_hex(STDOUT_FILENO, sum as u64, 8);
+    io::write_all(STDOUT_FILENO, b"\n");
+}
+
+pub fn finished(calls: u32) {
+    decimal(calls);
+    io::write_all(STDOUT_FILENO, b"calls\n");
+}
+
+// The trouble is in the line that is so many after those that were read.
+pub fn stopped(lines: u64, after: u64, trouble: Trouble) {
+    io::write_all(STDOUT_FILENO, b"stopped at line ");
+    io::print_decimal(STDOUT_FILENO, std::num::wrapping_add_u64(lines, after));
+    io::write_all(STDOUT_FILENO, b": ");
+    match trouble {
+        Trouble::Kind => io::write_all(STDOUT_FILENO, b"unknown kind of line\n"),
+        Trouble::Ends => io::write_all(STDOUT_FILENO, b"the input ends here\n"),
+        Trouble::Form => io::write_all(STDOUT_FILENO, b"not of the form that its kind has\n"),
+        Trouble::Room => io::write_all(
+            STDOUT_FILENO,
+            b"more storage or keys than this program holds\n",
+        ),
+        Trouble::Place => io::write_all(
+            STDOUT_FILENO,
+            b"an address or key number that is not there\n",
+        ),
+        Trouble::Early => io::write_all(STDOUT_FILENO, b"a call before its storage and record\n"),
+        Trouble::Checksum => io::write_all(STDOUT_FILENO, b"wrong checksum: the text is damaged\n"),
+        Trouble::Calls => io::write_all(STDOUT_FILENO, b"wrong number of calls at the end\n"),
+        Trouble::After => io::write_all(STDOUT_FILENO, b"text after the end\n"),
+    }
+    ;
+}
+
+// The checksum's register after a record.
+pub fn over_record(register: u32, guest: Guest) -> u32 {
+    let mut now = checksum::over_word(register, (guest.psw / 4294967296) as u32);
+    now = checksum::over_word(now, (guest.psw % 4294967296) as u32);
+    let general = guest.general;
+    let mut i = 0;
+    while i < 16 {
+        now = checksum::over_word(now, general[i]);
+        i += 1;
+    }
+    now = checksum::over_word(now, guest.cr0);
+    now = checksum::over_word(now, guest.cr1);
+    checksum::over_word(now, guest.cr6)
+}
+
+fn decimal(n: u32) {
+    io::print_decimal(STDOUT_FILENO, n as u64);
+    io::write_all(STDOUT_FILENO, b" ");
+}
+
+fn hex(n: u32, width: usize) {
+    io::print_hex(STDOUT_FILENO, n as u64, width);
+    io::write_all(STDOUT_FILENO, b" ");
+}

@@ -1,0 +1,78 @@
+// What is known between two lines of the input, and what a line can lead to.
+use crate::checksum;
+
+pub struct State {
+    // lines read
+    pub lines: u64,
+    // calls made
+    pub calls: u32,
+    // the checksum's register
+    pub sum: u32,
+    // bytes and keys of the storage that the calls are made on
+    pub size: u32,
+    pub keys: u32,
+    // whether a storage and a record were given
+    pub has_storage: bool,
+    pub has_record: bool,
+}
+
+pub enum Trouble {
+    Kind,
+    Ends,
+    Form,
+    Room,
+    Place,
+    Early,
+    Checksum,
+    Calls,
+    After,
+}
+
+pub enum Step {
+    Next(State),
+    Finished,
+    Stopped(Trouble),
+}
+
+impl State {
+    pub fn new() -> State {
+        State {
+            lines: 0,
+            calls: 0,
+            sum: checksum::START,
+            size: 0,
+            keys: 0,
+            has_storage: false,
+            has_record: false,
+        }
+    }
+
+    // One line on, with these characters summed.
+    pub fn past(self, sum: u32) -> State {
+        let mut next = self;
+        next.lines = std::num::wrapping_add_u64(self.lines, 1);
+        next.sum = sum;
+        next
+    }
+
+    pub fn with_storage(self, size: u32, keys: u32) -> State {
+        let mut next = self;
+        next.size = size;
+        next.keys = keys;
+        next.has_storage = true;
+        next
+    }
+
+    pub fn with_record(self) -> State {
+        let mut next = self;
+        next.has_record = true;
+        next
+    }
+
+    // One call on: the checksum begins anew.
+    pub fn called(self) -> State {
+        let mut next = self.past(checksum::START);
+        next.calls = std::num::wrapping_add_u32(self.calls, 1);
+        next
+    }
+}

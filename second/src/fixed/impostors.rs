@@ -1,0 +1,56 @@
+//! Lists for the impostors, above all for one that performs a list's first call and only pretends later.
+
+use super::FixedList;
+use crate::setup::{Setup, VIRTUAL_BC, VIRTUAL_EC};
+
+pub fn lists() -> Vec<FixedList> {
+    let mut lists = vec![three_masks(), two_keys()];
+    lists.extend(refused_then_completed());
+    lists
+}
+
+/// STOSM sets bits 6 and 7, then STNSM clears bit 7, on one virtual PSW; SSM puts a third value.
+fn three_masks() -> FixedList {
+    let first = Setup::stosm([0x04, VIRTUAL_EC], 0x03);
+    let second = Setup::stnsm([0x04, VIRTUAL_EC], 0xFE);
+    // The third call's operand byte is what the second call stored at 002000.
+    let third = Setup::ssm([0x04, VIRTUAL_EC], 0x00);
+    FixedList::several(
+        &first,
+        &[
+            ("list of three, call 1: old 04, OR 03", &first),
+            ("list of three, call 2: old 07 from call 1, AND FE", &second),
+            ("list of three, call 3: new 07 from call 2's operand", &third),
+        ],
+    )
+}
+
+/// SSK twice on one page: the second finds the key that the first set.
+fn two_keys() -> FixedList {
+    let first = Setup::ssk().key(2, 0x07);
+    let mut second = first.clone();
+    second.guest.general_registers[3] = 0x0000_00C6;
+    FixedList::several(
+        &first,
+        &[
+            ("list of two, call 1: old key 07, R1 3F", &first),
+            ("list of two, call 2: old key 39 from call 1, R1 C6", &second),
+        ],
+    )
+}
+
+/// STCTL stores over virtual register 0, so that SSM, which completes alone, is refused.
+fn refused_then_completed() -> Vec<FixedList> {
+    // Virtual register 4 is E4B4C4D4 (bit 1 one); it is stored over virtual register 0.
+    let ssm = Setup::ssm([0x00, VIRTUAL_BC], 0x55).word(0x510, 0xE4B4_C4D4);
+    let stctl = Setup::stctl(4, 4).operand(0x500);
+    let alone = FixedList::several(&ssm, &[("list of two, alone: virtual register 0 bit 1 zero", &ssm)]);
+    let both = FixedList::several(
+        &ssm,
+        &[
+            ("list of two, call 1: register 4 stored over register 0", &stctl),
+            ("list of two, call 2: virtual register 0 bit 1 one from call 1", &ssm),
+        ],
+    );
+    vec![alone, both]
+}

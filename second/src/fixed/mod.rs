@@ -1,0 +1,89 @@
+//! Fixed calls that open every file of calls: the manual's figures 13 to 18, every bit of the system mask,
+//! bad calls in every combination, and the impostors' lists.
+
+mod figure_13;
+mod figure_14;
+mod figure_15;
+mod figure_16;
+mod figures_17_18;
+mod impostors;
+mod layout;
+mod mask_bits;
+mod order;
+
+use crate::attempt::Instruction;
+use crate::call::{Request, StorageImage};
+use crate::setup::Setup;
+
+/// A field of a figure: where it is, and its number of bytes.
+#[derive(Clone, Copy, Debug)]
+pub struct Field {
+    pub name: &'static str,
+    pub address: u32,
+    pub length: u32,
+}
+
+/// One call, with the case in words; no two have the same instruction and case.
+#[derive(Clone, Debug)]
+pub struct FixedCall {
+    pub case: String,
+    pub request: Request,
+}
+
+impl FixedCall {
+    pub fn mnemonic(&self) -> &'static str {
+        Instruction::of_first_halfword(self.request.first_halfword).map_or("other", Instruction::mnemonic)
+    }
+}
+
+/// Calls on one storage, each later one on what the one before it left.
+#[derive(Clone, Debug)]
+pub struct FixedList {
+    pub image: StorageImage,
+    pub calls: Vec<FixedCall>,
+    /// Fields that the (only) call must look for just here: elsewhere it would find something else.
+    pub fields: Vec<Field>,
+}
+
+impl FixedList {
+    /// One call, and the fields that decide it.
+    fn one(case: &str, setup: &Setup, fields: &[Field]) -> FixedList {
+        let calls = vec![FixedCall { case: case.into(), request: setup.request() }];
+        FixedList { image: setup.image.clone(), calls, fields: fields.to_vec() }
+    }
+
+    /// Calls on the storage of the first set-up.
+    fn several(image_of: &Setup, calls: &[(&str, &Setup)]) -> FixedList {
+        let call =
+            |&(case, setup): &(&str, &Setup)| FixedCall { case: case.into(), request: setup.request() };
+        FixedList {
+            image: image_of.image.clone(),
+            calls: calls.iter().map(call).collect(),
+            fields: Vec::new(),
+        }
+    }
+}
+
+/// Figures 13 to 18, each case a list of one call.
+pub fn figures() -> Vec<FixedList> {
+    let mut lists = figure_13::cases();
+    lists.extend(figure_14::cases());
+    lists.extend(figure_15::cases());
+    lists.extend(figure_16::cases());
+    lists.extend(figures_17_18::cases());
+    lists
+}
+
+/// Every bit of the system mask, each case a list of one call.
+pub fn mask_bits() -> Vec<FixedList> {
+    mask_bits::cases()
+}
+
+/// Bad calls in every combination, each case a list of one call.
+pub fn bad_calls() -> Vec<FixedList> {
+    order::cases()
+}
+
+pub fn impostor_lists() -> Vec<FixedList> {
+    impostors::lists()
+}

@@ -1,0 +1,107 @@
+//! Two lists of calls on one storage: what each consults and changes when it runs alone, and orders of both.
+
+use std::collections::BTreeSet;
+
+use crate::attempt::Answer;
+use crate::call::{Request, StorageImage};
+use crate::machine::ReferenceKind;
+
+/// Two lists on one starting storage, and an order of both in which each keeps its own order.
+#[derive(Clone, Debug, PartialEq, Eq)]
+pub struct Pair {
+    pub image: StorageImage,
+    pub lists: [Vec<Request>; 2],
+    /// Which list the next call is from: 0 or 1.
+    pub order: Vec<usize>,
+}
+
+/// Byte addresses and key numbers.
+#[derive(Clone, Debug, Default, PartialEq, Eq)]
+pub struct Part {
+    pub bytes: BTreeSet<u32>,
+    pub keys: BTreeSet<u32>,
+}
+
+/// A list run alone: its answers, what it left, what it consulted and what it stored or set.
+#[derive(Clone, Debug)]
+pub struct Run {
+    pub answers: Vec<Answer>,
+    pub storage: Vec<u8>,
+    pub keys: Vec<u8>,
+    /// Every byte and key that an entry of the list of references names, stores included.
+    pub consulted: Part,
+    /// The bytes stored and the keys set.
+    pub changed: Part,
+}
+
+impl Part {
+    fn meets(&self, other: &Part) -> bool {
+        !self.bytes.is_disjoint(&other.bytes) || !self.keys.is_disjoint(&other.keys)
+    }
+}
+
+impl Run {
+    /// Run requests in order, the first on the image, each later one on what the one before it left.
+    pub fn of(image: &StorageImage, requests: impl IntoIterator<Item = Request>) -> Run {
+        let mut run = Run {
+            answers: Vec::new(),
+            storage: image.storage(),
+            keys: image.key_bytes(),
+            consulted: Part::default(),
+            changed: Part::default(),
+        };
+        for request in requests {
+            let answer = request.make(&mut run.storage, &mut run.keys);
+            run.note(&answer);
+            run.answers.push(answer);
+        }
+        run
+    }
+
+    fn note(&mut self, answer: &Answer) {
+        for entry in &answer.references {
+            self.consulted.bytes.extend(&entry.bytes);
+            self.consulted.keys.extend(entry.key);
+            match entry.kind {
+                ReferenceKind::Store => self.changed.bytes.extend(&entry.bytes),
+                ReferenceKind::KeySet => self.changed.keys.extend(entry.key),
+                _ => {}
+            }
+        }
+    }
+
+    pub fn completed(&self) -> usize {
+        self.answers.iter().filter(|answer| answer.ending.number() == 0).count()
+    }
+}
+
+impl Pair {
+    /// Each list alone.
+    pub fn alone(&self) -> [Run; 2] {
+        [0, 1].map(|list| Run::of(&self.image, self.lists[list].iter().copied()))
+    }
+
+    /// Both lists in the pair's order.
+    pub fn interleaved(&self) -> Run {
+        Run::of(&self.image, self.requests_in_order())
+    }
+
+    pub fn requests_in_order(&self) -> Vec<Request> {
+        let mut next = [0, 0];
+        let take = |&list: &usize| {
+            next[list] += 1;
+            self.lists[list][next[list] - 1]
+        };
+        self.order.iter().map(take).collect()
+    }
+
+    /// How often the order goes from one list to the other.
+    pub fn switches(&self) -> usize {
+        self.order.windows(2).filter(|two| two[0] != two[1]).count()
+    }
+}
+
+/// The premise of demand 3: neither list, run alone, consults what the other stores or sets.
+pub fn keep_to_their_parts(alone: &[Run; 2]) -> bool {
+    !alone[0].consulted.meets(&alone[1].changed) && !alone[1].consulted.meets(&alone[0].changed)
+}

@@ -1,0 +1,116 @@
+//! The fixed calls of every file of calls against values worked out by hand from document 01.
+//!
+//! Set-up (see `setup.rs`): 16 KiB, PSW key zero, DAT off, instruction at 1000, operand at 2000, MICBLOK at 400,
+//! ECBLOK at 500, virtual PSW at 600. Virtual register r is the word A0B0C0D0 + r times 01010101.
+
+#[path = "../common/expected.rs"]
+mod expected;
+mod figures_13_14;
+mod figures_15_to_18;
+mod impostors;
+mod mask_bits;
+mod order;
+
+use std::collections::BTreeMap;
+
+use expected::Expected;
+use second::call::changes;
+use second::fixed::{bad_calls, figures, impostor_lists, mask_bits, Field, FixedList};
+use second::{Call, ReferenceKind};
+
+#[test]
+fn figures_give_what_the_paper_says() {
+    let mut expectations = figures_13_14::figure_13();
+    expectations.extend(figures_13_14::figure_14());
+    expectations.extend(figures_15_to_18::figure_15());
+    expectations.extend(figures_15_to_18::figure_16());
+    expectations.extend(figures_15_to_18::figure_17());
+    expectations.extend(figures_15_to_18::figure_18());
+    check(&figures(), &expectations);
+}
+
+#[test]
+fn impostor_lists_give_what_the_paper_says() {
+    check(&impostor_lists(), &impostors::impostors());
+}
+
+/// Every call once, in the order of the expectations.
+fn check(lists: &[FixedList], expectations: &[Expected]) {
+    let mut expectations = expectations.iter();
+    for list in lists {
+        let (mut storage, mut keys) = (list.image.storage(), list.image.key_bytes());
+        for call in &list.calls {
+            let expected = expectations.next().expect("as many expectations as calls");
+            assert_eq!((call.mnemonic(), call.case.as_str()), expected.name);
+            let (storage_before, keys_before) = (storage.clone(), keys.clone());
+            let answer = call.request.make(&mut storage, &mut keys);
+            let ending = answer.ending;
+            let given = (ending.number(), ending.code_or_step(), ending.logical_address());
+            assert_eq!(given, expected.ending, "{:?}", expected.name);
+            assert_eq!(answer.count(), expected.count, "{:?}", expected.name);
+            assert_eq!(changes(&storage_before, &storage), expected.bytes, "{:?}", expected.name);
+            assert_eq!(changes(&keys_before, &keys), expected.keys, "{:?}", expected.name);
+            let mut record = call.request.guest;
+            record.psw_32_63 = expected.next;
+            assert_eq!(answer.guest, record, "{:?}", expected.name);
+        }
+    }
+    assert_eq!(expectations.count(), 0);
+}
+
+#[test]
+fn every_case_fits_in_a_comment() {
+    for list in figures().iter().chain(&mask_bits()).chain(&bad_calls()).chain(&impostor_lists()) {
+        for call in &list.calls {
+            assert!(
+                call.case.is_ascii() && call.mnemonic().len() + 1 + call.case.len() <= 77,
+                "{}",
+                call.case
+            );
+        }
+    }
+}
+
+/// Ending, count, bytes stored and keys set.
+type Outcome = ((u32, u32), usize, BTreeMap<u32, u8>, BTreeMap<u32, u8>);
+
+fn outcome(call: &Call) -> Outcome {
+    let (mut storage, mut keys) = (call.image.storage(), call.image.key_bytes());
+    let answer = call.request.make(&mut storage, &mut keys);
+    let named = |kind: ReferenceKind| answer.references.iter().filter(move |entry| entry.kind == kind);
+    let stored = named(ReferenceKind::Store).flat_map(|entry| &entry.bytes);
+    let set = named(ReferenceKind::KeySet).filter_map(|entry| entry.key);
+    (
+        (answer.ending.number(), answer.ending.code_or_step()),
+        answer.count(),
+        stored.map(|&byte| (byte, storage[byte as usize])).collect(),
+        set.map(|key| (key, keys[key as usize])).collect(),
+    )
+}
+
+/// The call as a program makes it that looks for the field `shift` bytes further on.
+fn looked_for_elsewhere(call: &Call, field: Field, shift: u32) -> Call {
+    let mut moved = call.clone();
+    for offset in 0..field.length {
+        let there = call.image.byte((field.address + offset).wrapping_add(shift));
+        moved.image.put(field.address + offset, &[there]);
+    }
+    moved
+}
+
+#[test]
+fn a_field_looked_for_elsewhere_gives_something_else() {
+    let mut fields = 0;
+    for list in figures() {
+        let call = Call { image: list.image.clone(), request: list.calls[0].request };
+        let right = outcome(&call);
+        for field in list.fields {
+            fields += 1;
+            for shift in [1, 2, 4, 8].into_iter().flat_map(|shift: u32| [shift, shift.wrapping_neg()]) {
+                let wrong = outcome(&looked_for_elsewhere(&call, field, shift));
+                assert_ne!(right, wrong, "{} {} {}", list.calls[0].case, field.name, shift as i32);
+            }
+        }
+    }
+    assert!(fields > 100, "{fields}");
+}

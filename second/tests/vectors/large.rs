@@ -1,0 +1,63 @@
+//! A set with `--large`: sizes, and items that go round from FFFFFF to 000000.
+
+use std::collections::BTreeSet;
+use std::ops::RangeInclusive;
+
+use second::vectors::{SetOptions, VectorSet};
+use second::{Answer, ReferenceKind};
+
+use crate::reader::{read, ReadCall};
+
+/// What goes round in a completed call.
+fn going_round(call: &ReadCall, answer: &Answer) -> Vec<&'static str> {
+    let mut items = Vec::new();
+    let entries = || answer.references.iter().zip(answer.references.iter().skip(1));
+    let starts_at_0 = |bytes: &[u32]| bytes.first() == Some(&0);
+    if call.request.guest.control_register_6 & 0x00FF_FFF8 == 0x00FF_FFF8
+        && answer.references.iter().any(|entry| starts_at_0(&entry.bytes))
+    {
+        items.push("MICBLOK");
+    }
+    for entry in &answer.references {
+        if entry.bytes.windows(2).any(|two| two == [0xFF_FFFF, 0]) {
+            items.push(match (entry.kind, entry.bytes.len()) {
+                (ReferenceKind::VirtualRegister, _) => "virtual register",
+                (ReferenceKind::ControlField, 2) => "virtual PSW",
+                (ReferenceKind::Store, 4) => "swap word",
+                _ => "other",
+            });
+        }
+    }
+    let stores = |kind| kind == ReferenceKind::Store;
+    if entries().any(|(one, next)| {
+        stores(one.kind) && stores(next.kind) && one.bytes[0] == 0xFF_FFFC && starts_at_0(&next.bytes)
+    }) {
+        items.push("operand");
+    }
+    items
+}
+
+#[test]
+fn sizes_and_items_that_go_round() {
+    let set = VectorSet::new(SetOptions { seed: 1, calls: 50, large: true });
+    let (mut sizes, mut items, mut completed) = (Vec::new(), BTreeSet::new(), 0);
+    let printed = read(set.stdin(), &mut |call: &ReadCall, answer: &Answer| {
+        sizes.push(call.storage.len());
+        assert!(call.key_count <= 8_448);
+        if answer.ending.number() == 0 {
+            completed += 1;
+            items.extend(going_round(call, answer));
+        }
+    });
+    assert!(printed == set.stdout());
+    assert_eq!((sizes.len(), set.shares.figures), (50, 0));
+    let of_size = |range: RangeInclusive<usize>| sizes.iter().filter(|size| range.contains(size)).count();
+    assert_eq!(of_size(0..=16_779_264), 50);
+    assert!(of_size(0x100_0000..=0x100_0000) >= 25);
+    assert!(of_size(16_779_264..=16_779_264) >= 1);
+    assert!(of_size(4_194_305..=16_777_215) >= 1);
+    assert!(completed >= 20, "{completed}");
+    for item in ["MICBLOK", "virtual register", "virtual PSW", "swap word", "operand"] {
+        assert!(items.contains(item), "{item}");
+    }
+}

@@ -1,0 +1,137 @@
+//! Files of calls: read back, sizes, contents, and what the stored set reaches.
+
+mod large;
+mod pairs_in_file;
+mod reached;
+mod reader;
+
+use std::sync::OnceLock;
+
+use reader::{read, Crc, ReadCall};
+use second::report::{micrseg, Tally};
+use second::vectors::{SetOptions, Shares, VectorSet};
+use second::Answer;
+
+/// The stored set: seed 1, 10,000 calls.
+fn stored_set() -> &'static VectorSet {
+    static SET: OnceLock<VectorSet> = OnceLock::new();
+    SET.get_or_init(|| VectorSet::new(SetOptions { seed: 1, calls: 10_000, large: false }))
+}
+
+/// What reading a set gives.
+struct ReadSet {
+    printed: String,
+    tally: Tally,
+    storage_sizes: Vec<usize>,
+    most_keys: usize,
+    /// Calls on each storage, in the order of the file.
+    calls_on_storage: Vec<usize>,
+}
+
+fn read_set(set: &VectorSet) -> ReadSet {
+    let mut tally = Tally::default();
+    let (mut storage_sizes, mut calls_on_storage, mut most_keys) = (Vec::new(), Vec::new(), 0);
+    let printed = read(set.stdin(), &mut |call: &ReadCall, answer: &Answer| {
+        tally.add(&call.request, micrseg(call.storage, &call.request), answer);
+        storage_sizes.push(call.storage.len());
+        most_keys = most_keys.max(call.key_count);
+        calls_on_storage.resize(call.storage_number, 0);
+        calls_on_storage[call.storage_number - 1] += 1;
+    });
+    ReadSet { printed, tally, storage_sizes, most_keys, calls_on_storage }
+}
+
+/// The stored set as it is read back from its text.
+fn stored_set_read() -> &'static ReadSet {
+    static READ: OnceLock<ReadSet> = OnceLock::new();
+    READ.get_or_init(|| read_set(stored_set()))
+}
+
+fn stored_set_tally() -> &'static Tally {
+    &stored_set_read().tally
+}
+
+#[test]
+fn known_checksum() {
+    assert_eq!(Crc::new().of(&[b"12345", b"6789"]), 0xCBF4_3926);
+    assert_eq!(second::checksum::checksum(b"123456789"), 0xCBF4_3926);
+}
+
+#[test]
+fn the_stored_set_read_back_gives_what_must_be_printed() {
+    let read = stored_set_read();
+    assert!(read.printed == stored_set().stdout());
+    // The report is made over exactly the calls in the file.
+    assert_eq!(read.tally.text(), stored_set().tally.text());
+    assert!(stored_set().stdin().len() < 7_000_000);
+}
+
+#[test]
+fn other_seeds_read_back_give_what_must_be_printed() {
+    for seed in [2, 77] {
+        let set = VectorSet::new(SetOptions { seed, calls: 2_000, large: false });
+        let read = read_set(&set);
+        assert!(read.printed == set.stdout());
+        assert_eq!(read.tally.calls, 2_000);
+    }
+}
+
+#[test]
+fn shares_of_the_stored_set() {
+    let Shares { figures, single, in_lists, in_pairs } = stored_set().shares;
+    assert_eq!(figures + single + in_lists + in_pairs, 10_000);
+    assert!((2_800..=3_100).contains(&single), "{single}");
+    assert!((4_400..=4_600).contains(&in_lists), "{in_lists}");
+    assert!((2_400..=2_600).contains(&in_pairs), "{in_pairs}");
+    assert_eq!(figures, second::fixed::figures().len());
+    // Single calls have a storage each, so do lists; no list is longer than 15 and few are short.
+    let on_storage = &stored_set_read().calls_on_storage;
+    assert_eq!(on_storage.iter().sum::<usize>(), 10_000);
+    assert!(on_storage.iter().all(|&calls| (1..=15).contains(&calls)));
+    assert!(on_storage.iter().filter(|&&calls| calls > 1).count() > 900);
+}
+
+#[test]
+fn sizes_of_the_stored_set() {
+    let read = stored_set_read();
+    assert!(read.storage_sizes.iter().all(|&size| size <= 4_194_304) && read.most_keys <= 8_448);
+    let at_least = |size: usize| read.storage_sizes.iter().filter(|&&one| one >= size).count();
+    let four_mib = at_least(0x40_0000 - 2048);
+    assert!((1..=100).contains(&four_mib), "{four_mib} at 4 MiB");
+    let one_mib = at_least(0x10_0000 - 2048) - four_mib;
+    assert!((1..=300).contains(&one_mib), "{one_mib} at 1 MiB");
+    let average = read.storage_sizes.iter().sum::<usize>() / read.storage_sizes.len();
+    assert!(average < 120_000, "{average}");
+}
+
+#[test]
+fn form_of_the_stored_set() {
+    let text = stored_set().stdin();
+    let mut record = "";
+    for line in text.lines() {
+        // Only what is not zero, and a record only when it is another.
+        match &line[..1] {
+            "w" | "q" => assert!(line[2..8].ends_with(['0', '4', '8', 'c']) && !line.ends_with(" 00000000")),
+            "b" | "k" => assert!(!line.ends_with(" 00")),
+            "r" => {
+                assert_ne!(line, record);
+                record = line;
+            }
+            _ => {}
+        }
+    }
+    for kind in ["#", "s", "w", "b", "q", "k", "r", "a", "e"] {
+        assert!(text.lines().any(|line| line.starts_with(kind)), "{kind}");
+    }
+    let parts: Vec<&str> = text.lines().filter(|line| line.starts_with("# ")).map(str::trim_end).collect();
+    let expected = [
+        "# Figures 13 to 18",
+        "# Every bit of the system mask",
+        "# Bad calls: every combination",
+        "# Lists for the impostors",
+        "# Single calls",
+        "# Lists of calls on one storage",
+    ];
+    let places = expected.map(|part| parts.iter().position(|&one| one == part).expect(part));
+    assert!(places.is_sorted() && parts[parts.len() - 1].starts_with("# Pairs of lists"));
+}

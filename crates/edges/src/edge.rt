@@ -119,8 +119,8 @@ impl Edge {
         Edge::new(0xB600 + registers as u16).word(ECBLOK, virtual_register(0))
     }
 
-    // SSK 3,4 of address 023000 (64K segments: segment 2, page 3) in frame 001000; R1 low byte 3F. The last word has the
-    // page entries 2 and 3.
+    // SSK 3,4 of address 023000 (64K segments: segment 2, page 3) in frame 001000; R1 low byte 3F. The last word has
+    // the page entries 2 and 3.
     pub(crate) fn ssk() -> Edge {
         let mut edge = Edge::new(0x0834);
         edge.register_3 = 0xABCDEF3F;

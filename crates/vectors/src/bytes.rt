@@ -1,7 +1,7 @@
 // Stores to the bytes of a storage, or to its keys: the first `count` of a longer array are those that are there.
 
 // Zeros in the first `count` bytes; false where the array has fewer.
-pub fn clear(bytes: &mut [u8], count: u32) -> bool {
+pub(crate) fn clear(bytes: &mut [u8], count: u32) -> bool {
     let n = count as usize;
     if n > bytes.len() {
         return false;
@@ -15,7 +15,7 @@ pub fn clear(bytes: &mut [u8], count: u32) -> bool {
 }
 
 // A word, big-endian; false where one of its bytes isn't there.
-pub fn put_word(bytes: &mut [u8], count: u32, at: u32, word: u32) -> bool {
+pub(crate) fn put_word(bytes: &mut [u8], count: u32, at: u32, word: u32) -> bool {
     let n = count as usize;
     let i = at as usize;
     if n > bytes.len() {
@@ -31,7 +31,7 @@ pub fn put_word(bytes: &mut [u8], count: u32, at: u32, word: u32) -> bool {
     true
 }
 
-pub fn put_byte(bytes: &mut [u8], count: u32, at: u32, value: u8) -> bool {
+pub(crate) fn put_byte(bytes: &mut [u8], count: u32, at: u32, value: u8) -> bool {
     let i = at as usize;
     if at >= count || i >= bytes.len() {
         return false;

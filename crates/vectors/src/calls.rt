@@ -13,7 +13,7 @@ use crate::state::Trouble;
 use rules::Guest;
 
 // The guest's record: PSW bits 0-31, PSW bits 32-63, general registers 0 to 15, control registers 0, 1 and 6.
-pub fn new_record(record: &mut [u32; 21], state: State) -> Step {
+pub(crate) fn new_record(record: &mut [u32; 21], state: State) -> Step {
     let mut line = [0u8; 190];
     if !whole(&mut line) {
         return Step::Stopped(Trouble::Ends);
@@ -26,7 +26,7 @@ pub fn new_record(record: &mut [u32; 21], state: State) -> Step {
 }
 
 // One attempt: the first halfword, whether the expanded assist is installed, and the checksum.
-pub fn call(storage: &mut [u8], keys: &mut [u8], record: &[u32; 21], state: State) -> Step {
+pub(crate) fn call(storage: &mut [u8], keys: &mut [u8], record: &[u32; 21], state: State) -> Step {
     let mut line = [0u8; 17];
     if !whole(&mut line) {
         return Step::Stopped(Trouble::Ends);
@@ -49,20 +49,18 @@ pub fn call(storage: &mut [u8], keys: &mut [u8], record: &[u32; 21], state: Stat
     if !state.has_storage || !state.has_record {
         return Step::Stopped(Trouble::Early);
     }
-    let next = state.called();
     attempt(
         storage,
         keys,
         guest_of(record),
         (first % 65536) as u16,
         installed == 1,
-        next,
-    );
-    Step::Next(next)
+        state.called(),
+    )
 }
 
 // The end: the number of calls and the last checksum.
-pub fn end(state: State) -> Step {
+pub(crate) fn end(state: State) -> Step {
     let mut line = [0u8; 19];
     match two(&mut line, 8, 8) {
         Fields::Two(calls, sum) => {
@@ -86,14 +84,14 @@ fn attempt(
     first: u16,
     installed: bool,
     state: State,
-) {
+) -> Step {
     let size = state.size as usize;
     let count = state.keys as usize;
     if size > storage.len() {
-        return;
+        return Step::Stopped(Trouble::Room);
     }
     if count > keys.len() {
-        return;
+        return Step::Stopped(Trouble::Room);
     }
     attempt_and_report(
         &mut storage[0..size],
@@ -103,6 +101,7 @@ fn attempt(
         installed,
         state.calls,
     );
+    Step::Next(state)
 }
 
 fn attempt_and_report(

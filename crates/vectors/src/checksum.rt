@@ -2,7 +2,7 @@
 ghost use Prim.Native.Nat.{_≤_};
 
 // The register before the first byte.
-pub const START: u32 = 0xffffffff;
+pub(crate) const START: u32 = 0xffffffff;
 
 // The register after eight steps from each byte, with the polynomial 0xedb88320.
 const STEPS: [u32; 256] = [
@@ -265,12 +265,12 @@ const STEPS: [u32; 256] = [
 ];
 
 // The register after these bytes.
-pub fn over(register: u32, bytes: &[u8]) -> u32 {
+pub(crate) fn over(register: u32, bytes: &[u8]) -> u32 {
     over_first(register, bytes, bytes.len())
 }
 
 // The register after the first n of these bytes.
-pub fn over_first(register: u32, bytes: &[u8], n: usize) -> u32 {
+pub(crate) fn over_first(register: u32, bytes: &[u8], n: usize) -> u32 {
     let end = at_most(n, bytes.len());
     // the constant is copied where it is named: once here, and not for each byte
     let steps = STEPS;
@@ -284,7 +284,7 @@ pub fn over_first(register: u32, bytes: &[u8], n: usize) -> u32 {
 }
 
 // The register after a word, big-endian.
-pub fn over_word(register: u32, word: u32) -> u32 {
+pub(crate) fn over_word(register: u32, word: u32) -> u32 {
     let bytes = [
         (word / 16777216) as u8,
         (word / 65536 % 256) as u8,
@@ -295,7 +295,7 @@ pub fn over_word(register: u32, word: u32) -> u32 {
 }
 
 // The checksum itself.
-pub fn finish(register: u32) -> u32 {
+pub(crate) fn finish(register: u32) -> u32 {
     4294967295 - register
 }
 

@@ -1,13 +1,13 @@
 // Fields of a line: a space, then a number in lower-case hexadecimal digits.
 ghost use Prim.Native.Nat.{_≤_};
 
-pub enum Number {
+pub(crate) enum Number {
     Value(u32),
     Bad,
 }
 
 // The field whose space stands at `at`, of up to eight digits.
-pub fn field(line: &[u8], at: usize, digits: usize) -> Number {
+pub(crate) fn field(line: &[u8], at: usize, digits: usize) -> Number {
     if at >= line.len() {
         return Number::Bad;
     }
@@ -31,7 +31,7 @@ pub fn field(line: &[u8], at: usize, digits: usize) -> Number {
 }
 
 // Whether the line's last character is a line feed.
-pub fn ends(line: &[u8]) -> bool {
+pub(crate) fn ends(line: &[u8]) -> bool {
     let n = line.len();
     n > 0 && line[n - 1] == b'\n'
 }

@@ -11,19 +11,19 @@ use crate::state::Trouble;
 use libc::STDIN_FILENO;
 use libc::STDOUT_FILENO;
 
-pub enum Fields {
+pub(crate) enum Fields {
     Two(u32, u32),
     Bad(Trouble),
 }
 
 // Fills the line from the input; false where the input ends before.
-pub fn whole(line: &mut [u8]) -> bool {
+pub(crate) fn whole(line: &mut [u8]) -> bool {
     let n = io::read_full(STDIN_FILENO, line);
     n == line.len()
 }
 
 // A line of two fields, of so many digits each.
-pub fn two(line: &mut [u8], first: usize, second: usize) -> Fields {
+pub(crate) fn two(line: &mut [u8], first: usize, second: usize) -> Fields {
     if !whole(line) {
         return Fields::Bad(Trouble::Ends);
     }
@@ -43,7 +43,7 @@ pub fn two(line: &mut [u8], first: usize, second: usize) -> Fields {
 }
 
 // '#' and 78 characters: printed as they stand.
-pub fn comment(state: State) -> Step {
+pub(crate) fn comment(state: State) -> Step {
     let mut line = [0u8; 79];
     if !whole(&mut line) {
         return Step::Stopped(Trouble::Ends);
@@ -57,7 +57,7 @@ pub fn comment(state: State) -> Step {
 }
 
 // A new storage, all zero.
-pub fn new_storage(storage: &mut [u8], keys: &mut [u8], state: State) -> Step {
+pub(crate) fn new_storage(storage: &mut [u8], keys: &mut [u8], state: State) -> Step {
     let mut line = [0u8; 19];
     match two(&mut line, 8, 8) {
         Fields::Two(size, count) => {
@@ -75,7 +75,7 @@ pub fn new_storage(storage: &mut [u8], keys: &mut [u8], state: State) -> Step {
 }
 
 // Four bytes of storage, or four keys, of which there are `count`.
-pub fn four(of: &mut [u8], count: u32, state: State) -> Step {
+pub(crate) fn four(of: &mut [u8], count: u32, state: State) -> Step {
     let mut line = [0u8; 17];
     match two(&mut line, 6, 8) {
         Fields::Two(at, word) => {
@@ -89,7 +89,7 @@ pub fn four(of: &mut [u8], count: u32, state: State) -> Step {
 }
 
 // One byte of storage, or one key.
-pub fn one(of: &mut [u8], count: u32, state: State) -> Step {
+pub(crate) fn one(of: &mut [u8], count: u32, state: State) -> Step {
     let mut line = [0u8; 11];
     match two(&mut line, 6, 2) {
         Fields::Two(at, value) => {

@@ -7,7 +7,7 @@ use rules::Guest;
 
 // The line of a call: its number, the ending, the code or step, the count, the logical address, the next address, and
 // the checksum of all that is there afterwards.
-pub fn answer(number: u32, given: Answer, sum: u32) {
+pub(crate) fn answer(number: u32, given: Answer, sum: u32) {
     let ending = given.ending;
     decimal(number);
     decimal(ending.number());
@@ -20,13 +20,13 @@ pub fn answer(number: u32, given: Answer, sum: u32) {
     io::write_all(STDOUT_FILENO, b"\n");
 }
 
-pub fn finished(calls: u32) {
+pub(crate) fn finished(calls: u32) {
     decimal(calls);
     io::write_all(STDOUT_FILENO, b"calls\n");
 }
 
 // The trouble is in the line that is so many after those that were read.
-pub fn stopped(lines: u64, after: u64, trouble: Trouble) {
+pub(crate) fn stopped(lines: u64, after: u64, trouble: Trouble) {
     io::write_all(STDOUT_FILENO, b"stopped at line ");
     io::print_decimal(STDOUT_FILENO, std::num::wrapping_add_u64(lines, after));
     io::write_all(STDOUT_FILENO, b": ");
@@ -51,7 +51,7 @@ pub fn stopped(lines: u64, after: u64, trouble: Trouble) {
 }
 
 // The checksum's register after a record.
-pub fn over_record(register: u32, guest: Guest) -> u32 {
+pub(crate) fn over_record(register: u32, guest: Guest) -> u32 {
     let mut now = checksum::over_word(register, (guest.psw / 4294967296) as u32);
     now = checksum::over_word(now, (guest.psw % 4294967296) as u32);
     let general = guest.general;

@@ -1,22 +1,22 @@
 // What is known between two lines of the input, and what a line can lead to.
 use crate::checksum;
 
-pub struct State {
+pub(crate) struct State {
     // lines read
-    pub lines: u64,
+    pub(crate) lines: u64,
     // calls made
-    pub calls: u32,
+    pub(crate) calls: u32,
     // the checksum's register
-    pub sum: u32,
+    pub(crate) sum: u32,
     // bytes and keys of the storage that the calls are made on
-    pub size: u32,
-    pub keys: u32,
+    pub(crate) size: u32,
+    pub(crate) keys: u32,
     // whether a storage and a record were given
-    pub has_storage: bool,
-    pub has_record: bool,
+    pub(crate) has_storage: bool,
+    pub(crate) has_record: bool,
 }
 
-pub enum Trouble {
+pub(crate) enum Trouble {
     Kind,
     Ends,
     Form,
@@ -28,14 +28,14 @@ pub enum Trouble {
     After,
 }
 
-pub enum Step {
+pub(crate) enum Step {
     Next(State),
     Finished,
     Stopped(Trouble),
 }
 
 impl State {
-    pub fn new() -> State {
+    pub(crate) fn new() -> State {
         State {
             lines: 0,
             calls: 0,
@@ -48,14 +48,14 @@ impl State {
     }
 
     // One line on, with these characters summed.
-    pub fn past(self, sum: u32) -> State {
+    pub(crate) fn past(self, sum: u32) -> State {
         let mut next = self;
         next.lines = std::num::wrapping_add_u64(self.lines, 1);
         next.sum = sum;
         next
     }
 
-    pub fn with_storage(self, size: u32, keys: u32) -> State {
+    pub(crate) fn with_storage(self, size: u32, keys: u32) -> State {
         let mut next = self;
         next.size = size;
         next.keys = keys;
@@ -63,14 +63,14 @@ impl State {
         next
     }
 
-    pub fn with_record(self) -> State {
+    pub(crate) fn with_record(self) -> State {
         let mut next = self;
         next.has_record = true;
         next
     }
 
     // One call on: the checksum begins anew.
-    pub fn called(self) -> State {
+    pub(crate) fn called(self) -> State {
         let mut next = self.past(checksum::START);
         next.calls = std::num::wrapping_add_u32(self.calls, 1);
         next

@@ -1,4 +1,4 @@
-use mathlib.Core.Path.{_≡_, refl, _∙_}
+use mathlib.Core.Path.{_≡_}
 use lib.ListN.{length}
 use native.Mathlib.Omega.{arith}
 use borrow.Author.Needs.{needs}
@@ -6,7 +6,8 @@ use Rattle.vectors.proofs.run.Statement.{statement}
 use Rattle.vectors.proofs.run.Tie as tie
 
 abbrev Inv-loop : tie.InvT-loop
-Inv-loop storage₀ keys₀ record₀ state₀ turns₀ storage keys «record» state turns = (length storage ≡ length storage₀) × (length keys ≡ length keys₀)
+Inv-loop storage₀ keys₀ record₀ state₀ turns₀ storage keys «record» state turns =
+    (length storage ≡ length storage₀) × (length keys ≡ length keys₀)
 
 abbrev μ-loop : tie.MeasureT-loop
 μ-loop storage₀ keys₀ record₀ state₀ turns₀ storage keys «record» state turns = turns

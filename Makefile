@@ -24,5 +24,4 @@ test:
 	tools/gate
 
 expected:
-	tools/second edges >crates/edges/stdout
-	tools/second vectors --seed 1 --calls 10000 --out crates/vectors
+	tools/expected crates

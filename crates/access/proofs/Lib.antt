@@ -1,2 +1,3 @@
 -- Laws of the sizes of pages and segments.
 pub mod Sizes
+pub mod Reals

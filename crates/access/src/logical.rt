@@ -1,9 +1,13 @@
 // Logical addresses: the access test, once for all instructions, and logical fetches.
+ghost use Prim.Native.Nat.{ℕ};
 ghost use mathlib.Core.Path.{_≡_};
-ghost use Rattle.rules.specs.Access.{realOf, access, storeTest, logicalFetch, secondHalfword};
+ghost use mathlib.Core.List.{List};
+ghost use Rattle.rules.specs.Machine.{Machine};
+ghost use Rattle.rules.specs.Steps.{Steps};
+ghost use Rattle.rules.specs.Access.{fetchPasses, access, storeTest, logicalFetch, secondHalfword};
 ghost use Rattle.storage.specs.Items.{bytesIn};
 ghost use Rattle.storage.specs.Answers.{machine, told, seen};
-ghost use Rattle.access.specs.Walks.{passesFor};
+ghost use Rattle.access.specs.Walks.{passesFor, keyTest, keyTested};
 use crate::translation::translate;
 use rules::Ending;
 use rules::Exception;
@@ -11,19 +15,6 @@ use rules::Guest;
 use rules::KeyUse;
 use storage::Stepped;
 use storage::Width;
-
-// With DAT off a logical address is real.
-fn real_of(storage: &[u8], keys: &mut [u8], guest: Guest, at: u32) -> Stepped
-    ensures { λ r. ⌜
-        told r (now (storage .entry)) (now (keys .exit))
-        ≡ seen (realOf guest at) (machine (now (storage .entry)) (now (keys .entry)))
-        ⌝ }
-{
-    if guest.dat_on() {
-        return translate(storage, keys, guest.cr0, guest.cr1, at);
-    }
-    Stepped::Value(at, 0)
-}
 
 // A store passes if the PSW key is zero or equals the access bits; a fetch passes also if the fetch bit is zero.
 fn passes(store: bool, held: u32, key: u32) -> bool
@@ -36,28 +27,40 @@ fn passes(store: bool, held: u32, key: u32) -> bool
     stores | (key % 2 != 1)
 }
 
-fn access(storage: &[u8], keys: &mut [u8], guest: Guest, store: bool, at: u32) -> Stepped
+// A real address: in storage, and its key lets the access pass.
+fn key_test(keys: &mut [u8], store: bool, held: u32, real: u32) -> Stepped
     ensures { λ r. ⌜
-        told r (now (storage .entry)) (now (keys .exit))
-        ≡ seen (access (passesFor store) guest at) (machine (now (storage .entry)) (now (keys .entry)))
+        ((s : List ℕ) →
+        told r s (now (keys .exit)) ≡ seen (keyTest (passesFor store) held real) (machine s (now (keys .entry))))
         ⌝ }
 {
-    let resolved = real_of(storage, keys, guest, at);
-    let Stepped::Value(real, count) = resolved else {
-        return resolved;
-    };
     let outside = Ending::Interruption(Exception::Addressing);
-    let consulted = storage::consult_key(keys, KeyUse::ForProtection, real / 2048, outside).after(
-        count,
-    );
-    let Stepped::Value(key, counted) = consulted else {
+    let consulted = storage::consult_key(keys, KeyUse::ForProtection, real / 2048, outside);
+    let Stepped::Value(key, count) = consulted else {
         return consulted;
     };
-    if passes(store, guest.psw_key(), key) {
-        return Stepped::Value(real, counted);
+    if passes(store, held, key) {
+        return Stepped::Value(real, count);
     }
-    Stepped::Stopped(Ending::Interruption(Exception::Protection), counted)
+    Stepped::Stopped(Ending::Interruption(Exception::Protection), count)
 }
+
+// The same after the walk that found the real address, or the walk's ending.
+fn walked_test(keys: &mut [u8], store: bool, held: u32, walked: Stepped) -> Stepped
+    ensures { λ r. ⌜
+        ((p : Steps ℕ) (m : Machine) (s : List ℕ) →
+        told walked s (now (keys .entry)) ≡ seen p m →
+        told r s (now (keys .exit)) ≡ seen (keyTested p (passesFor store) held) m)
+        ⌝ }
+{
+    let Stepped::Value(real, count) = walked else {
+        return walked;
+    };
+    key_test(keys, store, held, real).after(count)
+}
+
+// The access tests. They are two functions, and not one with a flag, so that translation is called from two places: the
+// compiler then leaves it where it is, and the tests are small enough to be put into the loops and steps that use them.
 
 // The real address of an operand that is stored later.
 pub fn store_test(storage: &[u8], keys: &mut [u8], guest: Guest, at: u32) -> Stepped
@@ -66,7 +69,24 @@ pub fn store_test(storage: &[u8], keys: &mut [u8], guest: Guest, at: u32) -> Ste
         ≡ seen (storeTest guest at) (machine (now (storage .entry)) (now (keys .entry)))
         ⌝ }
 {
-    access(storage, keys, guest, true, at)
+    let mut real = Stepped::Value(at, 0);
+    if guest.dat_on() {
+        real = translate(storage, keys, guest.cr0, guest.cr1, at);
+    }
+    walked_test(keys, true, guest.psw_key(), real)
+}
+
+fn fetch_test(storage: &[u8], keys: &mut [u8], guest: Guest, at: u32) -> Stepped
+    ensures { λ r. ⌜
+        told r (now (storage .entry)) (now (keys .exit))
+        ≡ seen (access fetchPasses guest at) (machine (now (storage .entry)) (now (keys .entry)))
+        ⌝ }
+{
+    let mut real = Stepped::Value(at, 0);
+    if guest.dat_on() {
+        real = translate(storage, keys, guest.cr0, guest.cr1, at);
+    }
+    walked_test(keys, false, guest.psw_key(), real)
 }
 
 pub fn logical_fetch(
@@ -81,7 +101,7 @@ pub fn logical_fetch(
         ≡ seen (logicalFetch guest at (bytesIn width)) (machine (now (storage .entry)) (now (keys .entry)))
         ⌝ }
 {
-    let tested = access(storage, keys, guest, false, at);
+    let tested = fetch_test(storage, keys, guest, at);
     let Stepped::Value(real, count) = tested else {
         return tested;
     };

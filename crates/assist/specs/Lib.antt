@@ -1,2 +1,3 @@
 -- What an attempt promises.
 pub mod Attempted
+pub mod Changes

@@ -1,11 +1,14 @@
 // One attempt of the virtual-machine assist: document 01, "The numbered endings".
 ghost use Prim.Native.Nat.{_≤_};
 ghost use mathlib.Core.Path.{_≡_};
+ghost use mathlib.Core.Bool.{_||_};
+ghost use lib.Dec.{eqb};
 ghost use lib.ListN.{length};
 ghost use Rattle.rules.specs.Endings.{numbers};
 ghost use Rattle.rules.specs.Attempt.{instruction, program};
 ghost use Rattle.storage.specs.Answers.{machine, seen, finished, finish};
 ghost use Rattle.assist.specs.Attempted.{attempted};
+ghost use Rattle.assist.specs.Changes.{changeBy};
 use crate::admission::is_assisted;
 use crate::admission::is_odd;
 use crate::admission::is_wrong_keys;
@@ -20,7 +23,23 @@ use rules::MaskChange;
 
 mod admission;
 
-// The instruction, by its operation code.
+// STORE THEN AND SYSTEM MASK or STORE THEN OR SYSTEM MASK, and which of them.
+fn is_store_then(operation: u32) -> bool
+    ensures { λ r. ⌜ r ≡ (eqb operation 0xac || eqb operation 0xad) ⌝ }
+{
+    (operation == 172) | (operation == 173)
+}
+
+fn mask_change(operation: u32) -> MaskChange
+    ensures { λ r. ⌜ r ≡ changeBy (eqb operation 0xac) ⌝ }
+{
+    if operation == 172 {
+        return MaskChange::And;
+    }
+    MaskChange::Or
+}
+
+// The instruction, by its operation code. Each is called at one place, so that the compiler puts it there.
 fn instruction(storage: &mut [u8], keys: &mut [u8], call: Call) -> Answer
     ensures { λ r. ⌜
         finished r (now (storage .exit)) (now (keys .exit))
@@ -34,11 +53,8 @@ fn instruction(storage: &mut [u8], keys: &mut [u8], call: Call) -> Answer
     if operation == 182 {
         return control::store_control(storage, keys, call);
     }
-    if operation == 172 {
-        return masks::store_then(storage, keys, MaskChange::And, call);
-    }
-    if operation == 173 {
-        return masks::store_then(storage, keys, MaskChange::Or, call);
+    if is_store_then(operation) {
+        return masks::store_then(storage, keys, mask_change(operation), call);
     }
     storage_key::set_storage_key(storage, keys, call)
 }

@@ -1,11 +1,35 @@
-use mathlib.Core.Path.{sym, _∙_}
+use Prim.Native.Nat.{ℕ}
+use mathlib.Core.Path.{_≡_, refl, sym, ap, _∙_}
+use mathlib.Core.Bool.{Bool, true, false, _||_, true≢false}
+use lib.Dec.{eqb}
 use borrow.Author.Tests.{eq-eqb, ne-eqb}
+use Rattle.rules.specs.declared.call.Call.{Call}
+use Rattle.rules.specs.declared.mask_change.MaskChange.the-variants.{And, Or}
+use Rattle.rules.specs.Machine.{Machine}
+use Rattle.rules.specs.Steps.{Steps, branch}
+use Rattle.rules.specs.Call.{Completion}
+use Rattle.rules.specs.StoreThenMask.{storeThen}
 use Rattle.rules.specs.Attempt.{instruction}
-use Rattle.storage.specs.Answers.{machine}
-use Rattle.storage.proofs.Laws.{Left, begin, chosen, rejected, continues}
+use Rattle.storage.specs.Answers.{machine, seen, finish}
+use Rattle.storage.proofs.Laws.{Runs, Left, begin, chosen, rejected, continues}
+use Rattle.assist.specs.Changes.{changeBy}
 use borrow.Author.Needs.{needs}
 use Rattle.assist.proofs.instruction.Statement.{statement}
 use Rattle.assist.proofs.instruction.Tie as tie
+
+-- the two that change a mask: one of them, or neither
+module _ {m m′ : Machine} {t : Steps Completion} {n : ℕ} (c : Call) where
+  either-change : (a b : Bool) (s : Steps Completion)
+      → Runs m t n m′ (branch a (storeThen And c) (branch b (storeThen Or c) s)) → (a || b) ≡ true
+      → Runs m t n m′ (storeThen (changeBy a) c)
+  either-change true b s h e = chosen _ _ _ h refl
+  either-change false b s h e = chosen _ _ _ (rejected _ _ _ h refl) e
+
+  no-change : (a b : Bool) (s : Steps Completion)
+      → Runs m t n m′ (branch a (storeThen And c) (branch b (storeThen Or c) s)) → (a || b) ≡ false
+      → Runs m t n m′ s
+  no-change true b s h e = absurd (true≢false e)
+  no-change false b s h e = rejected _ _ _ (rejected _ _ _ h refl) e
 
 abbrev Here : tie.Start → Type 0
 Here c = let a = c .args in Left (machine (a .storage .now) (a .keys .now)) (instruction (a .call))
@@ -30,19 +54,6 @@ not-stctl c =
       _,
       rejected _ _ _ (not-ssm (c .before) .3)
           (ne-eqb _ _ (λ e. c .if2 .left (at-operation .operation .ensures ∙ e))),
-    )
-
-abbrev not-stnsm : (c : tie.Else3)
-    → let start = c .before .before .before .before .before .before in
-    Here start
-unfolding instruction not-ssm not-stctl
-not-stnsm c =
-    let at-operation = c .before .before .before in (
-      _,
-      _,
-      _,
-      rejected _ _ _ (not-stctl (c .before) .3)
-          (ne-eqb _ _ (λ e. c .if3 .left (at-operation .operation .ensures ∙ e))),
     )
 
 returns : tie.Need-returns
@@ -75,40 +86,36 @@ returns-3 : tie.Need-returns-3
 unfolding instruction not-ssm not-stctl
 returns-3 c =
     let at-store-then = c .before .before .before .before in
-    let at-if3 = at-store-then .before .before .before in
-    let at-operation = at-if3 .before .before .before in
+    let at-mask-change = at-store-then .before in
+    let at-if3 = at-mask-change .before .before .before in
+    let at-is-store-then = at-if3 .before in
+    let at-operation = at-is-store-then .before .before .before in
     let start = at-operation .before .before .before in
     let a = start .args in
+    let m = machine (a .storage .now) (a .keys .now) in
+    let operation = at-operation .operation .ensures in
+    let one-of-two = ap (λ o. eqb o 0xac || eqb o 0xad) (sym operation) ∙ sym (at-is-store-then .is-store-then .ensures)
+    ∙ at-if3 .if3 .taken in
+    let change = at-mask-change .mask-change .ensures ∙ ap (λ o. changeBy (eqb o 0xac)) operation in
     continues (a .call .guest) (at-store-then .store-then .result) (at-store-then .store-then .last .0)
     (at-store-then .store-then .last .1 .0)
-    (chosen _ _ _ (not-stctl (at-if3 .before) .3)
-    (eq-eqb _ _ (sym (at-operation .operation .ensures) ∙ at-if3 .if3 .taken))) (at-store-then .store-then .ensures)
+    (either-change (a .call) _ _ _ (not-stctl (at-is-store-then .before) .3) one-of-two)
+    (at-store-then .store-then .ensures ∙ ap (λ x. finish (a .call .guest) (seen (storeThen x (a .call)) m)) change)
 
 returns-4 : tie.Need-returns-4
-unfolding instruction not-ssm not-stctl not-stnsm
+unfolding instruction not-ssm not-stctl
 returns-4 c =
-    let at-store-then2 = c .before .before .before .before in
-    let at-if4 = at-store-then2 .before .before .before in
-    let at-operation = at-if4 .before .before .before .before in
-    let start = at-operation .before .before .before in
-    let a = start .args in
-    continues (a .call .guest) (at-store-then2 .store-then2 .result) (at-store-then2 .store-then2 .last .0)
-    (at-store-then2 .store-then2 .last .1 .0)
-    (chosen _ _ _ (not-stnsm (at-if4 .before) .3)
-    (eq-eqb _ _ (sym (at-operation .operation .ensures) ∙ at-if4 .if4 .taken))) (at-store-then2 .store-then2 .ensures)
-
-returns-5 : tie.Need-returns-5
-unfolding instruction not-ssm not-stctl not-stnsm
-returns-5 c =
     let at-set-storage-key = c .before .before .before .before in
-    let at-if4 = at-set-storage-key .before .before .before in
-    let at-operation = at-if4 .before .before .before .before in
+    let at-if3 = at-set-storage-key .before .before .before in
+    let at-is-store-then = at-if3 .before in
+    let at-operation = at-is-store-then .before .before .before in
     let start = at-operation .before .before .before in
     let a = start .args in
+    let neither = ap (λ o. eqb o 0xac || eqb o 0xad) (sym (at-operation .operation .ensures))
+    ∙ sym (at-is-store-then .is-store-then .ensures) ∙ at-if3 .if3 .left in
     continues (a .call .guest) (at-set-storage-key .set-storage-key .result)
     (at-set-storage-key .set-storage-key .last .0) (at-set-storage-key .set-storage-key .last .1 .0)
-    (rejected _ _ _ (not-stnsm (at-if4 .before) .3)
-    (ne-eqb _ _ (λ e. at-if4 .if4 .left (at-operation .operation .ensures ∙ e))))
+    (no-change (a .call) _ _ _ (not-stctl (at-is-store-then .before) .3) neither)
     (at-set-storage-key .set-storage-key .ensures)
 
 pub instruction-spec : {M : Type 1} → statement M
@@ -125,14 +132,12 @@ instruction-spec =
     (λ c. search needs)
     returns-2
     (λ c κs. search needs)
+    (λ c κs. search needs)
+    (λ c κs. search needs)
     (λ c. search needs)
     (λ c. search needs)
     returns-3
     (λ c κs. search needs)
     (λ c. search needs)
     (λ c. search needs)
-    returns-4
-    (λ c κs. search needs)
-    (λ c. search needs)
-    (λ c. search needs)
-    returns-5)
+    returns-4)

@@ -13,29 +13,29 @@ abbrev tested : (c : tie.After-known-told)
     (logicalFetch (a .guest) (a .at) (bytesIn (a .width)))
 unfolding logicalFetch
 tested c =
-    let at-access = c .before .before .before .before .before in
-    let at-access = at-access in
-    let start = at-access .before .before .before .before in
+    let at-fetch-test = c .before .before .before .before .before in
+    let at-fetch-test = at-fetch-test in
+    let start = at-fetch-test .before .before .before .before in
     let a = start .args in
     let m = machine (a .storage .now) (a .keys .now) in (
       _,
       _,
       _,
-      step (at-access .access .result) (a .storage .now) (at-access .access .last .1 .0) _ _
-          (begin m (logicalFetch (a .guest) (a .at) (bytesIn (a .width)))) (fresh _ _ (at-access .access .ensures))
+      step (at-fetch-test .fetch-test .result) (a .storage .now) (at-fetch-test .fetch-test .last .1 .0) _ _
+          (begin m (logicalFetch (a .guest) (a .at) (bytesIn (a .width)))) (fresh _ _ (at-fetch-test .fetch-test .ensures))
           (c .before .tested .given .1),
     )
 
 returns : tie.Need-returns
 unfolding logicalFetch
 returns c =
-    let at-access = c .before .before .before .before in
-    let at-access = at-access in
-    let start = at-access .before .before .before .before in
+    let at-fetch-test = c .before .before .before .before in
+    let at-fetch-test = at-fetch-test in
+    let start = at-fetch-test .before .before .before .before in
     let a = start .args in
     let m = machine (a .storage .now) (a .keys .now) in
-    hands (at-access .access .result) (a .storage .now) (at-access .access .last .1 .0) _ _
-    (begin m (logicalFetch (a .guest) (a .at) (bytesIn (a .width)))) (fresh _ _ (at-access .access .ensures))
+    hands (at-fetch-test .fetch-test .result) (a .storage .now) (at-fetch-test .fetch-test .last .1 .0) _ _
+    (begin m (logicalFetch (a .guest) (a .at) (bytesIn (a .width)))) (fresh _ _ (at-fetch-test .fetch-test .ensures))
     (c .enum-told .given .1)
 
 returns-2 : tie.Need-returns-2

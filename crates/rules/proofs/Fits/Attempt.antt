@@ -25,7 +25,7 @@ use Rattle.rules.proofs.Fits.SetStorageKey.{setStorageKey-fits}
 
 -- ---- the five
 
-either-true : (a b : Bool) → (a || b) ≡ true → (a ≡ true) ⊎ (b ≡ true)
+pub either-true : (a b : Bool) → (a || b) ≡ true → (a ≡ true) ⊎ (b ≡ true)
 either-true true b h = inl refl
 either-true false b h = inr h
 

@@ -1,0 +1,4 @@
+-- Laws of the words and of the packed answer, and that packing and taking apart are inverse.
+pub mod Words
+pub mod Fields
+pub mod Inverse

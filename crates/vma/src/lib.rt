@@ -1,0 +1,62 @@
+// The library that C programs link: one entry, on bytes, words and numbers. include/vma.h declares it.
+ghost use mathlib.Core.Path.{_≡_};
+ghost use lib.ListN.{length};
+ghost use Rattle.rules.specs.Endings.{numbers};
+ghost use Rattle.vma.specs.Words.{wordsOf};
+ghost use Rattle.vma.specs.Packed.{packed, numbersIn, countIn};
+ghost use Rattle.vma.specs.Called.{called};
+use crate::guest_words::guest_of;
+use crate::packing::pack;
+
+mod guest_words;
+mod packing;
+
+// One attempt. The storage, keys and record of the caller are changed in place, and only on completion; in the record
+// the instruction address alone. Every call is answered, whatever is lent.
+#[no_mangle]
+pub extern "C" fn vma_attempt(
+    storage: &mut [u8],
+    keys: &mut [u8],
+    guest: &mut [u32; 21],
+    first: u16,
+    installed: bool,
+) -> u64
+    ensures result { λ r. ⌜
+        r
+        ≡ packed
+        (numbers (called (now (storage .entry)) (now (keys .entry)) (now (guest .entry)) first installed .answer .ending))
+        (length (called (now (storage .entry)) (now (keys .entry)) (now (guest .entry)) first installed .references))
+        ⌝ }
+    ensures numbers { λ r. ⌜
+        numbersIn r
+        ≡ numbers (called (now (storage .entry)) (now (keys .entry)) (now (guest .entry)) first installed .answer .ending)
+        ⌝ }
+    ensures count { λ r. ⌜
+        countIn r
+        ≡ length (called (now (storage .entry)) (now (keys .entry)) (now (guest .entry)) first installed .references)
+        ⌝ }
+    ensures guest { λ r. ⌜
+        now (guest .exit)
+        ≡ wordsOf (called (now (storage .entry)) (now (keys .entry)) (now (guest .entry)) first installed .answer .guest)
+        ⌝ }
+    ensures untouched { λ r. ⌜ ((numbersIn r .number ≡ 0 → ⊥) → now (guest .exit) ≡ now (guest .entry)) ⌝ }
+    ensures storage { λ r. ⌜
+        now (storage .exit)
+        ≡ called (now (storage .entry)) (now (keys .entry)) (now (guest .entry)) first installed .after .storage
+        ⌝ }
+    ensures keys { λ r. ⌜
+        now (keys .exit)
+        ≡ called (now (storage .entry)) (now (keys .entry)) (now (guest .entry)) first installed .after .keys
+        ⌝ }
+{
+    let answer = assist::attempt(storage, keys, guest_of(*guest), first, installed);
+    let ending = answer.ending;
+    let next = answer.guest;
+    guest[1] = (next.psw % 4294967296) as u32;
+    pack(
+        ending.number(),
+        ending.code(),
+        answer.count,
+        ending.address(),
+    )
+}

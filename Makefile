@@ -1,12 +1,33 @@
-# make edges: the edges of document 01, run through the proved library.
-# make vectors SEED=n: random calls, run and compared with the second program; what they reached.
+# make run: the tool's demonstration: the edges of document 01, run through the proved library.
 # make test: everything that is tested; the gate.
+# make library: proves the code, and writes target/staticlib/libvma.a for C programs.
+# make bench: the library's time for a call beside that of plain Rust.
+# make fuzz SEED=n CALLS=n: random calls through the library, compared with the second program.
+# make edges: the edges once more, by a program that is proved itself.
+# make vectors SEED=n CALLS=n: random calls through a proved program, compared; what they reached.
 # make expected: writes the stored expected outputs anew, with the second program.
 
-.PHONY: edges vectors test expected
+.PHONY: run test library bench fuzz edges vectors expected
 
 SEED ?= 1
 CALLS ?= 10000
+
+run: library
+	tools/vma demo
+
+test:
+	cd second && cargo test --quiet
+	tools/compare-stored
+	tools/gate
+
+library:
+	rt staticlib vma
+
+bench: library
+	tools/vma bench
+
+fuzz: library
+	tools/vma fuzz $(SEED) $(CALLS)
 
 edges:
 	rt check edges
@@ -17,11 +38,6 @@ vectors:
 	rt check vectors
 	tools/compare-vectors --seed $(SEED) --calls $(CALLS)
 	tools/compare-vectors --seed $(SEED) --large
-
-test:
-	cd second && cargo test --quiet
-	tools/compare-stored
-	tools/gate
 
 expected:
 	tools/expected crates

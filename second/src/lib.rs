@@ -5,6 +5,7 @@
 pub mod access;
 pub mod address;
 pub mod attempt;
+pub mod bench_calls;
 pub mod bits;
 pub mod call;
 pub mod checksum;

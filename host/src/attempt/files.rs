@@ -72,7 +72,7 @@ impl Files {
             return Ok(Start::Ready(self));
         }
         self.check_left()?;
-        self.finish().map_err(unfinished)?;
+        self.finish().map_err(|failure| self.unfinished(failure))?;
         say(&format!(
             "an earlier call had completed, but was cut short before its files were all in place. It is now \
              finished, with {left}. Nothing else was done: this call was not made"
@@ -99,7 +99,7 @@ impl Files {
             Ok(storage)
         });
         match written {
-            Ok(_locked) => self.finish().map_err(unfinished),
+            Ok(_locked) => self.finish().map_err(|failure| self.unfinished(failure)),
             Err(failure) => Err(match self.remove_new() {
                 Ok(()) => failure.and("nothing was changed"),
                 Err(more) => failure.and(&format!("nothing was changed; {}", more.message())),
@@ -129,6 +129,15 @@ impl Files {
         Ok(())
     }
 
+    /// What a failure to finish means. If nothing is left, the same command would make another call.
+    fn unfinished(&self, failure: Failure) -> Failure {
+        let left = [&self.keys, &self.guest].into_iter().any(|file| file.has_new().unwrap_or(true));
+        failure.and(match left {
+            true => "the call has completed; give the same command again to finish writing its files",
+            false => "the call has completed and its files are in place, but may not be on the disk yet",
+        })
+    }
+
     /// What is to be finished must be what a call leaves, and no file that only has such a name.
     fn check_left(&self) -> Result<(), Failure> {
         if self.keys.has_new()? {
@@ -148,8 +157,4 @@ impl Files {
     fn in_order(&self) -> [&Lent; 3] {
         [&self.storage, &self.keys, &self.guest]
     }
-}
-
-fn unfinished(failure: Failure) -> Failure {
-    failure.and("the call has completed; give the same command again to finish writing its files")
 }

@@ -68,8 +68,8 @@ fn after_the_call_happened() {
         let names: Vec<&str> = left.iter().map(|file| file.0).filter(|name| name.ends_with(".new")).collect();
         let run = case.run();
         let expected = format!(
-            "vma: an earlier call had completed, but was cut short before its files were all in place. It is now \
-             finished, with {}. Nothing else was done: this call was not made\n",
+            "vma: an earlier call had completed, but was cut short before its files were all in place. \
+             It is now finished, with {}. Nothing else was done: this call was not made\n",
             paths(&case, &names)
         );
         assert_eq!((run.status, run.output.as_str(), run.messages), (Some(3), "", expected));

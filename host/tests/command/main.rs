@@ -8,4 +8,5 @@ mod endings;
 mod files;
 mod help;
 mod interrupted;
+mod manual;
 mod whole;

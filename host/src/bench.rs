@@ -5,7 +5,7 @@ use std::hint::black_box;
 use std::time::Instant;
 
 use second::bench_calls::bench_call;
-use second::{Call, Instruction};
+use second::{Call, Instruction, Request};
 
 use crate::command::{self, put_once, unknown, Command, Failure, Report};
 use crate::library;
@@ -19,7 +19,8 @@ const HELP: &str = "usage: vma bench [--quick]
 Measures the time of a call that completes, by the proved library and by plain Rust (the second program
 without its list of references): each of the five instructions, DAT off and on, in 64 KiB and in 16 MiB of
 storage. Both make the same calls, by turns; first it is made sure that they give the same answer. Prints
-nanoseconds for a call, each the median of 200 batches of 2,000 calls, and the ratio library / plain.
+nanoseconds for a call, each the median of 200 batches of 2,000 calls, and the ratio library / plain; below,
+the largest of these ratios, and the largest ratio of the library's times in 16 MiB and in 64 KiB.
 
   --quick  40 batches of 500 calls
 ";
@@ -36,39 +37,30 @@ struct Effort {
 const FULL: Effort = Effort { rounds: 200, calls: 2_000 };
 const QUICK: Effort = Effort { rounds: 40, calls: 500 };
 
-/// Nanoseconds for a call.
-#[derive(Clone, Copy)]
-struct Times {
-    library: f64,
-    plain: f64,
+/// A call on its storage, and the times measured for it, in nanoseconds for a call.
+struct Row {
+    title: String,
+    call: Call,
+    storage: Vec<u8>,
+    keys: Vec<u8>,
+    library: Vec<f64>,
+    plain: Vec<f64>,
 }
 
 fn run(words: &[OsString]) -> Result<Report, Failure> {
     let effort = effort(words)?;
-    let mut text = heading(effort);
-    let (mut against_plain, mut against_small) = (0.0_f64, 0.0_f64);
+    let mut rows = Vec::new();
     for instruction in Instruction::ALL {
         for dat in [false, true] {
-            let mut library = Vec::new();
             for (size, size_words) in SIZES {
-                let call = bench_call(instruction, dat, size);
-                let title = format!("{:5}  DAT {:3}  {size_words}", instruction.mnemonic(), on_or_off(dat));
-                check(&title, &call)?;
-                let times = measure(&call, effort);
-                let ratio = times.library / times.plain;
-                text.push_str(&format!(
-                    "{title}  {:9.1}  {:9.1}  {ratio:15.2}\n",
-                    times.library, times.plain
-                ));
-                against_plain = against_plain.max(ratio);
-                library.push(times.library);
+                let dat_words = if dat { "on" } else { "off" };
+                let title = format!("{:5}  DAT {dat_words:3}  {size_words}", instruction.mnemonic());
+                rows.push(Row::new(title, bench_call(instruction, dat, size))?);
             }
-            against_small = against_small.max(library[1] / library[0]);
         }
     }
-    text.push_str(&format!("\nlargest ratio library / plain:            {against_plain:.2}\n"));
-    text.push_str(&format!("largest ratio 16 MiB / 64 KiB, library:   {against_small:.2}\n"));
-    Ok(Report::new(text, command::COMPLETED))
+    measure(&mut rows, effort);
+    Ok(Report::new(table(&mut rows, effort), command::COMPLETED))
 }
 
 fn effort(words: &[OsString]) -> Result<Effort, Failure> {
@@ -82,19 +74,64 @@ fn effort(words: &[OsString]) -> Result<Effort, Failure> {
     Ok(if quick.is_some() { QUICK } else { FULL })
 }
 
-fn heading(effort: Effort) -> String {
-    format!(
-        "Nanoseconds for a call that completes, median of {} batches of {} calls\n\n\
-         {:22}  {:>9}  {:>9}  {:>15}\n",
-        effort.rounds, effort.calls, "", "library", "plain", "library / plain"
-    )
+/// Batches of all rows and both sides by turns: whatever slows the machine down for a while slows down all of
+/// them. Which side goes first changes from round to round.
+fn measure(rows: &mut [Row], effort: Effort) {
+    for round in 0..effort.rounds {
+        for row in &mut *rows {
+            if round % 2 == 0 {
+                row.library_batch(effort.calls);
+                row.plain_batch(effort.calls);
+            } else {
+                row.plain_batch(effort.calls);
+                row.library_batch(effort.calls);
+            }
+        }
+    }
 }
 
-fn on_or_off(dat: bool) -> &'static str {
-    if dat {
-        "on"
-    } else {
-        "off"
+impl Row {
+    fn new(title: String, call: Call) -> Result<Row, Failure> {
+        check(&title, &call)?;
+        let (storage, keys) = (call.image.storage(), call.image.key_bytes());
+        Ok(Row { title, call, storage, keys, library: Vec::new(), plain: Vec::new() })
+    }
+
+    /// The library changes the record in place, so before each call 21 words are copied. The plain function
+    /// has the same burden: it takes a reference, and writes the 21 words that it hands back. What goes in
+    /// and what comes out is hidden from the optimizer alike, by reference, which costs no copy. Neither is
+    /// inlined here: the one is in another language, the other in another crate.
+    fn library_batch(&mut self, calls: u32) {
+        let Request { guest, first_halfword, expanded } = self.call.request;
+        let before = record::of_guest(&guest);
+        let time = batch(calls, || {
+            let mut record = *black_box(&before);
+            let result = library::attempt(
+                black_box(&mut self.storage),
+                black_box(&mut self.keys),
+                black_box(&mut record),
+                black_box(first_halfword),
+                black_box(expanded),
+            );
+            black_box(&result);
+            black_box(&record);
+        });
+        self.library.push(time);
+    }
+
+    fn plain_batch(&mut self, calls: u32) {
+        let Request { guest, first_halfword, expanded } = self.call.request;
+        let time = batch(calls, || {
+            let answer = second::attempt_counted(
+                black_box(&mut self.storage),
+                black_box(&mut self.keys),
+                black_box(&guest),
+                black_box(first_halfword),
+                black_box(expanded),
+            );
+            black_box(&answer);
+        });
+        self.plain.push(time);
     }
 }
 
@@ -117,67 +154,42 @@ fn check(title: &str, call: &Call) -> Result<(), Failure> {
     Ok(())
 }
 
-/// Batches of both by turns, on one storage: whatever slows the machine down for a while slows down both.
-/// Which goes first changes from round to round.
-fn measure(call: &Call, effort: Effort) -> Times {
-    let (mut storage, mut keys) = (call.image.storage(), call.image.key_bytes());
-    let (mut library, mut plain) = (Vec::new(), Vec::new());
-    for round in 0..effort.rounds {
-        if round % 2 == 0 {
-            library.push(library_batch(call, &mut storage, &mut keys, effort.calls));
-            plain.push(plain_batch(call, &mut storage, &mut keys, effort.calls));
-        } else {
-            plain.push(plain_batch(call, &mut storage, &mut keys, effort.calls));
-            library.push(library_batch(call, &mut storage, &mut keys, effort.calls));
-        }
+/// Nanoseconds for a call, after some that aren't measured: they bring what is needed into the caches.
+fn batch(calls: u32, mut call: impl FnMut()) -> f64 {
+    for _ in 0..calls / 10 {
+        call();
     }
-    Times { library: median(library), plain: median(plain) }
-}
-
-/// The library changes the record in place, so before each call 21 words are copied. The plain function has
-/// the same burden: it takes a reference, and writes the record that it hands back, of 21 words. So both are
-/// measured as they are used. What goes in and what comes out is hidden from the optimizer alike, by
-/// reference, which costs no copy. Neither is inlined here: the one is in another language, the other in
-/// another crate.
-fn library_batch(call: &Call, storage: &mut [u8], keys: &mut [u8], calls: u32) -> f64 {
-    let before = record::of_guest(&call.request.guest);
     let start = Instant::now();
     for _ in 0..calls {
-        let mut record = *black_box(&before);
-        let result = library::attempt(
-            black_box(&mut *storage),
-            black_box(&mut *keys),
-            black_box(&mut record),
-            black_box(call.request.first_halfword),
-            black_box(call.request.expanded),
-        );
-        black_box(&result);
-        black_box(&record);
+        call();
     }
-    nanoseconds(start, calls)
-}
-
-fn plain_batch(call: &Call, storage: &mut [u8], keys: &mut [u8], calls: u32) -> f64 {
-    let guest = call.request.guest;
-    let start = Instant::now();
-    for _ in 0..calls {
-        let answer = second::attempt_counted(
-            black_box(&mut *storage),
-            black_box(&mut *keys),
-            black_box(&guest),
-            black_box(call.request.first_halfword),
-            black_box(call.request.expanded),
-        );
-        black_box(&answer);
-    }
-    nanoseconds(start, calls)
-}
-
-fn nanoseconds(start: Instant, calls: u32) -> f64 {
     start.elapsed().as_secs_f64() * 1e9 / f64::from(calls)
 }
 
-fn median(mut times: Vec<f64>) -> f64 {
+fn table(rows: &mut [Row], effort: Effort) -> String {
+    let mut text = format!(
+        "Nanoseconds for a call that completes, median of {} batches of {} calls\n\n\
+         {:22}  {:>9}  {:>9}  {:>15}\n",
+        effort.rounds, effort.calls, "", "library", "plain", "library / plain"
+    );
+    let (mut against_plain, mut against_small) = (0.0_f64, 0.0_f64);
+    for pair in rows.chunks_mut(SIZES.len()) {
+        let mut times = Vec::new();
+        for row in pair {
+            let (library, plain) = (median(&mut row.library), median(&mut row.plain));
+            let ratio = library / plain;
+            text.push_str(&format!("{}  {library:9.1}  {plain:9.1}  {ratio:15.2}\n", row.title));
+            against_plain = against_plain.max(ratio);
+            times.push(library);
+        }
+        against_small = against_small.max(times[1] / times[0]);
+    }
+    text.push_str(&format!("\nlargest ratio library / plain: {against_plain:.2}\n"));
+    text.push_str(&format!("largest ratio of the library in 16 MiB / 64 KiB: {against_small:.2}\n"));
+    text
+}
+
+fn median(times: &mut [f64]) -> f64 {
     times.sort_by(f64::total_cmp);
     times[times.len() / 2]
 }

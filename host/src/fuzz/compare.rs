@@ -1,26 +1,27 @@
 //! The same calls by the library and by the second program, each on an area of its own.
 //!
-//! After each call its numbers, its record and all its keys are compared, and all its storage if that is
-//! small. To compare and clear 16 MiB for each call would take too long. In large storage those places are
-//! compared which the call may change: what the image puts, and what the second program's list of references
-//! says is stored. The areas are zero between lists; so after a group of calls all of each area is looked at,
-//! with its margins, and must be zero. If it isn't, or if a call differs, the group's calls are made again,
-//! with everything compared after each of them, to find the first that differs.
+//! After each call its numbers, its record, all its keys and the margins are compared, and all its storage if
+//! that is small. To compare and clear 16 MiB for each call would take too long. In large storage those
+//! places are compared which the call may change: what the image puts, and what the second program's list of
+//! references says is stored. The areas are zero between lists; so after a group of calls all of each area is
+//! looked at, and must be zero. If it isn't, or if a call differs, the group's calls are made again, with
+//! everything compared after each of them, to find the first that differs.
 //!
 //! Why no write goes unseen that one side makes and the other doesn't: the areas then differ at its place,
 //! until something is put there. An image's byte is put, and a store made, only after the areas were found to
 //! agree at its place; and clearing comes after comparing. So the place differs until it is met, by the end
-//! of the group at the latest. Only a second such write at the same place and in the same group, which undoes
-//! the first, could hide it; not so in storage of at most `SMALL` bytes (see `--largest`), all of which is
-//! compared each time.
+//! of the group at the latest. Only a second such write, which undoes the first, could hide it. Therefore
+//! storage begins at another place of the area in each call, one of `STARTS` by chance: the second write
+//! undoes the first with a chance of one in `STARTS` at most, and a fault that comes again and again is seen.
+//! In small storage there is not even that chance.
 
-use second::generate::{Chain, MOST_KEYS};
+use second::generate::{Chain, Random, MOST_KEYS};
 use second::{ReferenceKind, Request, StorageImage};
 
-use super::area::Area;
+use super::area::{Area, STARTS};
 use super::plan::{List, Plan};
 use super::tally::Tally;
-use crate::sides::{self, Outcome};
+use crate::sides::{self, Outcome, Side};
 
 /// Storage of at most this size is compared whole after each call.
 const SMALL: usize = 0x2_0000;
@@ -32,6 +33,8 @@ pub struct Ground {
 }
 
 pub struct Comparer {
+    /// The library, or in tests something that is to be told from the second program.
+    side: Side,
     pub library: Ground,
     pub counted: Ground,
     /// Where the second program makes its list of references, in large storage.
@@ -54,9 +57,10 @@ pub enum Alarm {
 }
 
 impl Comparer {
-    pub fn new(plan: &Plan, whole: bool) -> Comparer {
+    pub fn new(plan: &Plan, side: Side, whole: bool) -> Comparer {
         let ground = || Ground { storage: Area::new(plan.most_bytes()), keys: Area::new(MOST_KEYS) };
         Comparer {
+            side,
             library: ground(),
             counted: ground(),
             listed: ground(),
@@ -70,9 +74,12 @@ impl Comparer {
     /// Make the calls of a list. If it gives an alarm, this comparer is of no further use.
     pub fn list(&mut self, list: &List) -> Result<(), Alarm> {
         let Chain { image, requests } = &list.chain;
-        self.put(image)?;
+        self.put(image, list.first)?;
         for (index, request) in (list.first..).zip(requests) {
-            self.foresee(image, request)?;
+            if image.storage_size > SMALL {
+                self.shift(index)?;
+                self.foresee(image, request)?;
+            }
             if !self.call(image, request) {
                 return Err(Alarm::Differs(index));
             }
@@ -90,7 +97,10 @@ impl Comparer {
         agree(grounds.all(|ground| ground.storage.is_zero() && ground.keys.is_zero()))
     }
 
-    fn put(&mut self, image: &StorageImage) -> Result<(), Alarm> {
+    /// Put the image for the call with this number.
+    fn put(&mut self, image: &StorageImage, index: u64) -> Result<(), Alarm> {
+        let start = start(index);
+        self.grounds().for_each(|ground| ground.storage.start_at(start));
         self.touched.clear();
         for (&place, &value) in image.bytes.range(..image.storage_size as u32) {
             self.touch(place as usize)?;
@@ -104,12 +114,23 @@ impl Comparer {
         Ok(())
     }
 
-    /// Learn where a call will store, from its list of references. Small storage is compared whole, without
-    /// it.
-    fn foresee(&mut self, image: &StorageImage, request: &Request) -> Result<(), Alarm> {
-        if image.storage_size <= SMALL {
-            return Ok(());
+    /// Let storage begin elsewhere, for the call with this number.
+    fn shift(&mut self, index: u64) -> Result<(), Alarm> {
+        let places = std::mem::take(&mut self.touched);
+        let values: Vec<Vec<u8>> = self.grounds().map(|ground| ground.storage.take(&places)).collect();
+        let start = start(index);
+        self.grounds().for_each(|ground| ground.storage.start_at(start));
+        for &place in &places {
+            self.touch(place)?;
         }
+        for (ground, values) in self.grounds().zip(values) {
+            places.iter().zip(values).for_each(|(&place, value)| ground.storage.put(place, value));
+        }
+        Ok(())
+    }
+
+    /// Learn where a call will store, from its list of references.
+    fn foresee(&mut self, image: &StorageImage, request: &Request) -> Result<(), Alarm> {
         let Ground { storage, keys } = &mut self.listed;
         let answer = request.make(storage.lent(image.storage_size), keys.lent(image.key_count));
         for reference in answer.references.iter().filter(|one| one.kind == ReferenceKind::Store) {
@@ -138,7 +159,7 @@ impl Comparer {
     fn call(&mut self, image: &StorageImage, request: &Request) -> bool {
         let (size, count) = (image.storage_size, image.key_count);
         let Ground { storage, keys } = &mut self.library;
-        let library = sides::library(request, storage.lent(size), keys.lent(count));
+        let library = (self.side)(request, storage.lent(size), keys.lent(count));
         let Ground { storage, keys } = &mut self.counted;
         let counted = sides::counted(request, storage.lent(size), keys.lent(count));
         self.last = Some((library, counted));
@@ -154,7 +175,10 @@ impl Comparer {
         }
         let storage = match size <= SMALL {
             true => library.storage.is_same(&counted.storage, size),
-            false => self.touched.iter().all(|&place| self.is_same_at(place)),
+            false => {
+                library.storage.has_same_margins(&counted.storage, size)
+                    && self.touched.iter().all(|&place| self.is_same_at(place))
+            }
         };
         storage && library.keys.is_same(&counted.keys, count)
     }
@@ -169,6 +193,11 @@ impl Comparer {
             ground.keys.lent(image.key_count).fill(0);
         }
     }
+}
+
+/// Where storage begins in the area, for the call with this number.
+fn start(index: u64) -> usize {
+    Random::new(0x7374_6172_7400_0000, index).below(STARTS as u32) as usize
 }
 
 /// Between calls everything must be as it should; what isn't, an earlier call left.

@@ -5,7 +5,7 @@ use std::ops::Range;
 use second::generate::Chain;
 use second::Request;
 
-use super::area::{Area, MARGIN};
+use super::area::Area;
 use super::compare::Comparer;
 use super::plan::{List, Plan};
 use crate::changes;
@@ -73,7 +73,7 @@ fn place_lines(what: &str, size: usize, library: &Area, second: &Area) -> Vec<St
     let bytes = |area: &Area, run: &Range<usize>| changes::hex(&area.all()[run.clone()]);
     let line = |run: Range<usize>| {
         let values = sides::told_apart(&bytes(library, &run), &bytes(second, &run));
-        format!("{}: {values}", place_words(what, size, run.start))
+        format!("{}: {values}", place_words(what, size, library.start(), run.start))
     };
     let mut lines: Vec<String> = runs.into_iter().take(MOST_LINES).map(line).collect();
     if more > 0 {
@@ -82,10 +82,10 @@ fn place_lines(what: &str, size: usize, library: &Area, second: &Area) -> Vec<St
     lines
 }
 
-/// A place of an area in words.
-fn place_words(what: &str, size: usize, place: usize) -> String {
-    match place.checked_sub(MARGIN) {
-        None => format!("OUTSIDE {what}, {} bytes before it", MARGIN - place),
+/// A place of an area in words, where what is lent begins at `start`.
+fn place_words(what: &str, size: usize, start: usize, place: usize) -> String {
+    match place.checked_sub(start) {
+        None => format!("OUTSIDE {what}, {} bytes before it", start - place),
         Some(place) if place >= size => format!("OUTSIDE {what}, {} bytes after it", place - size),
         Some(place) => format!("{what} {place:06X}"),
     }

@@ -10,6 +10,7 @@ mod tally;
 use std::ffi::OsString;
 
 use crate::command::{self, number, put_once, unknown, Command, Failure, Report, Words};
+use crate::sides;
 use plan::{Plan, BLOCK};
 
 pub const COMMAND: Command = Command { name: "fuzz", help: HELP, run };
@@ -29,7 +30,7 @@ Prints how many calls ended with each ending; or the first call that differs, in
 
 fn run(words: &[OsString]) -> Result<Report, Failure> {
     let plan = plan(words)?;
-    let (tally, difference) = search::search(&plan)?;
+    let (tally, difference) = search::search(&plan, sides::library)?;
     Ok(match difference {
         Some(text) => Report::new(text, command::ERROR),
         None => {

@@ -65,5 +65,5 @@ fn bench() {
     let rows = run.output.lines().filter(|line| line.contains("  DAT "));
     assert_eq!(rows.count(), 20);
     assert!(run.output.contains("\nlargest ratio library / plain: "));
-    assert!(run.output.contains("\nlargest ratio 16 MiB / 64 KiB, library: "));
+    assert!(run.output.contains("\nlargest ratio of the library in 16 MiB / 64 KiB: "));
 }

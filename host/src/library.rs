@@ -23,10 +23,10 @@ pub fn attempt(
     first_halfword: u16,
     expanded: bool,
 ) -> u64 {
-    // SAFETY: the declaration is that of the library's C header. Each pointer comes from an exclusive borrow
-    // that lasts until the call returns, and goes with the length of what is borrowed; so the three don't
-    // overlap. The library touches nothing else, keeps no pointer and doesn't unwind; it is proved for every
-    // content and every length, zero too.
+    // SAFETY: the declaration is that of include/vma.h. Each pointer comes from an exclusive borrow that
+    // lasts until the call returns, and goes with the length of what is borrowed; so the three don't overlap.
+    // The library touches nothing else, keeps no pointer and doesn't unwind; it is proved for every content
+    // and every length, zero too.
     unsafe {
         vma_attempt(
             storage.as_mut_ptr(),

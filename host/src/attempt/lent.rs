@@ -107,7 +107,7 @@ impl Lent {
             let old = fs::metadata(&self.path)?;
             let mut file = OpenOptions::new().write(true).create_new(true).mode(0o600).open(&self.new)?;
             file.write_all(contents)?;
-            fchown(&file, Some(old.uid()), Some(old.gid()))?;
+            fchown(&file, Some(old.uid()), Some(old.gid())).map_err(owner_lost)?;
             file.set_permissions(old.permissions())?;
             file.sync_all()?;
             sync_folder(&self.new)?;
@@ -147,6 +147,10 @@ impl Lent {
     fn metadata(&self) -> Result<Metadata, Failure> {
         fs::metadata(&self.path).map_err(|error| self.failure(&error.to_string()))
     }
+}
+
+fn owner_lost(error: io::Error) -> io::Error {
+    io::Error::other(format!("the owner and group of the file can't be kept: {error}"))
 }
 
 fn is_same(one: &Metadata, other: &Metadata) -> bool {

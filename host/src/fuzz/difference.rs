@@ -85,8 +85,8 @@ fn place_lines(what: &str, size: usize, library: &Area, second: &Area) -> Vec<St
 /// A place of an area in words, where what is lent begins at `start`.
 fn place_words(what: &str, size: usize, start: usize, place: usize) -> String {
     match place.checked_sub(start) {
-        None => format!("OUTSIDE {what}, {} bytes before it", start - place),
-        Some(place) if place >= size => format!("OUTSIDE {what}, {} bytes after it", place - size),
+        None => format!("OUTSIDE {what}, at its start - {}", start - place),
+        Some(place) if place >= size => format!("OUTSIDE {what}, at its end + {}", place - size),
         Some(place) => format!("{what} {place:06X}"),
     }
 }

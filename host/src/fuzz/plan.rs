@@ -56,7 +56,7 @@ impl Plan {
 
     /// The most bytes of storage that a call has.
     pub fn most_bytes(&self) -> usize {
-        self.largest.unwrap_or(LARGEST_LARGE)
+        self.largest.unwrap_or(LARGEST_LARGE).min(LARGEST_LARGE)
     }
 
     fn batch(&self, batch: u64) -> Box<dyn Iterator<Item = List> + '_> {

@@ -1,9 +1,11 @@
 //! Logical accesses: translation, storage bounds, protection, then the fetch.
 
+use crate::address::add;
 use crate::bits::word_bits;
 use crate::ending::Exception;
 use crate::guest::Guest;
-use crate::machine::{Machine, ReferenceKind};
+use crate::machine::Machine;
+use crate::references::{ReferenceKind, References};
 use crate::translation::translate;
 
 #[derive(Clone, Copy, PartialEq, Eq)]
@@ -13,46 +15,58 @@ enum Access {
 }
 
 /// Fetch the second halfword at the instruction address + 2.
-pub fn fetch_second_halfword(machine: &mut Machine, guest: &Guest) -> Result<u16, Exception> {
-    let logical_address = crate::address::add(guest.instruction_address(), 2);
-    let value = fetch(machine, guest, ReferenceKind::InstructionHalfword, logical_address, 2)?;
-    Ok(value as u16)
+#[inline(always)]
+pub fn fetch_second_halfword(
+    machine: &mut Machine<impl References>,
+    guest: &Guest,
+) -> Result<u16, Exception> {
+    let logical_address = add(guest.instruction_address(), 2);
+    fetch(machine, guest, ReferenceKind::InstructionHalfword, logical_address).map(u16::from_be_bytes)
 }
 
 /// Fetch an operand byte at a logical address.
-pub fn fetch_operand_byte(machine: &mut Machine, guest: &Guest, logical: u32) -> Result<u8, Exception> {
-    let value = fetch(machine, guest, ReferenceKind::OperandByte, logical, 1)?;
-    Ok(value as u8)
+#[inline(always)]
+pub fn fetch_operand_byte(
+    machine: &mut Machine<impl References>,
+    guest: &Guest,
+    logical: u32,
+) -> Result<u8, Exception> {
+    fetch(machine, guest, ReferenceKind::OperandByte, logical).map(u8::from_be_bytes)
 }
 
-/// Test an item at a logical address for store access; gives the real address.
-pub fn test_store(machine: &mut Machine, guest: &Guest, logical: u32, length: u32) -> Result<u32, Exception> {
-    test(machine, guest, logical, length, Access::Store)
+/// Test an item of N bytes at a logical address for store access; gives the real address.
+#[inline(always)]
+pub fn test_store<const N: usize>(
+    machine: &mut Machine<impl References>,
+    guest: &Guest,
+    logical: u32,
+) -> Result<u32, Exception> {
+    test::<N>(machine, guest, logical, Access::Store)
 }
 
-fn fetch(
-    machine: &mut Machine,
+#[inline(always)]
+fn fetch<const N: usize>(
+    machine: &mut Machine<impl References>,
     guest: &Guest,
     kind: ReferenceKind,
     logical: u32,
-    length: u32,
-) -> Result<u32, Exception> {
-    let real = test(machine, guest, logical, length, Access::Fetch)?;
-    machine.fetch(kind, real, length).ok_or(Exception::Addressing)
+) -> Result<[u8; N], Exception> {
+    let real = test::<N>(machine, guest, logical, Access::Fetch)?;
+    machine.fetch(kind, real).ok_or(Exception::Addressing)
 }
 
 /// Segment entry, page entry (DAT on only), real address in storage, key.
-fn test(
-    machine: &mut Machine,
+#[inline(always)]
+fn test<const N: usize>(
+    machine: &mut Machine<impl References>,
     guest: &Guest,
     logical: u32,
-    length: u32,
     access: Access,
 ) -> Result<u32, Exception> {
     let real = translate(machine, guest, logical)?;
     // A real address outside storage gives 5, and makes no entry.
     machine.walk_step = 7;
-    if !machine.contains(real, length) {
+    if !machine.contains::<N>(real) {
         return Err(Exception::Addressing);
     }
     // Then protection; the key entry is made even when the PSW key is zero.
@@ -66,6 +80,7 @@ fn test(
 }
 
 /// A store passes if the PSW key is zero or equals the access bits; a fetch passes also if the fetch bit is zero.
+#[inline(always)]
 fn access_permitted(psw_key: u32, key: u8, access: Access) -> bool {
     let key_byte = u32::from(key) << 24;
     let access_bits = word_bits(key_byte, 0, 3);

@@ -7,18 +7,20 @@ pub const ADDRESS_MASK: u32 = 0x00FF_FFFF;
 pub const KEY_BLOCK: u32 = 2048;
 
 /// Sum of an address and an offset, modulo 2^24.
+#[inline]
 pub fn add(address: u32, offset: u32) -> u32 {
     address.wrapping_add(offset) & ADDRESS_MASK
 }
 
 /// Difference of an address and an offset, modulo 2^24.
+#[inline]
 pub fn subtract(address: u32, offset: u32) -> u32 {
     address.wrapping_sub(offset) & ADDRESS_MASK
 }
 
 /// The byte addresses of an item that starts at `address`, each sum modulo 2^24.
-pub fn bytes_of_item(address: u32, length: u32) -> Vec<u32> {
-    (0..length).map(|offset| add(address, offset)).collect()
+pub fn bytes_of_item(address: u32, length: u32) -> impl Iterator<Item = u32> {
+    (0..length).map(move |offset| add(address, offset))
 }
 
 #[cfg(test)]
@@ -31,6 +33,6 @@ mod tests {
         assert_eq!(add(0xFF_FFFC, 0xFFF), 0xFFB);
         assert_eq!(add(0xFFFF_FFFF, 2), 1);
         assert_eq!(subtract(0, 4), 0xFF_FFFC);
-        assert_eq!(bytes_of_item(0xFF_FFFE, 4), vec![0xFF_FFFE, 0xFF_FFFF, 0, 1]);
+        assert!(bytes_of_item(0xFF_FFFE, 4).eq([0xFF_FFFE, 0xFF_FFFF, 0, 1]));
     }
 }

@@ -2,7 +2,8 @@
 
 use crate::ending::Ending;
 use crate::guest::Guest;
-use crate::machine::{Machine, Reference};
+use crate::machine::Machine;
+use crate::references::{Reference, References};
 use crate::set_storage_key::set_storage_key;
 use crate::set_system_mask::set_system_mask;
 use crate::store_control::store_control;
@@ -28,8 +29,16 @@ impl Instruction {
     ];
 
     /// The instruction that the first halfword's operation code names.
+    #[inline]
     pub fn of_first_halfword(first_halfword: u16) -> Option<Instruction> {
-        Instruction::ALL.into_iter().find(|one| u16::from(one.operation_code()) == first_halfword >> 8)
+        match first_halfword >> 8 {
+            0x80 => Some(Instruction::SetSystemMask),
+            0xB6 => Some(Instruction::StoreControl),
+            0xAC => Some(Instruction::StoreThenAnd),
+            0xAD => Some(Instruction::StoreThenOr),
+            0x08 => Some(Instruction::SetStorageKey),
+            _ => None,
+        }
     }
 
     pub fn operation_code(self) -> u8 {
@@ -43,6 +52,7 @@ impl Instruction {
     }
 
     /// Length in bytes: 2 (SSK) or 4.
+    #[inline]
     pub fn length(self) -> u32 {
         if self == Instruction::SetStorageKey {
             2
@@ -83,6 +93,16 @@ impl Answer {
     }
 }
 
+/// The same without the list.
+#[derive(Clone, Copy, Debug, PartialEq, Eq)]
+pub struct CountedAnswer {
+    pub ending: Ending,
+    /// The count of references.
+    pub count: u32,
+    /// The record handed back.
+    pub guest: Guest,
+}
+
 /// One attempt on lent storage and keys. Any input gets a numbered ending.
 pub fn attempt(
     storage: &mut [u8],
@@ -91,32 +111,57 @@ pub fn attempt(
     first_halfword: u16,
     expanded: bool,
 ) -> Answer {
-    let checked = check_call(storage.len(), keys.len(), guest, first_halfword);
-    let mut machine = Machine::new(storage, keys);
-    let performed = checked.and_then(|instruction| {
-        perform(&mut machine, guest, instruction, first_halfword, expanded)?;
-        Ok(instruction)
-    });
-    let (ending, handed_back) = match performed {
-        Ok(instruction) => (Ending::Completed, guest.moved_on(instruction.length())),
-        Err(ending) => (ending, *guest),
-    };
+    let mut machine = Machine::new(storage, keys, Vec::new());
+    let (ending, guest) = run(&mut machine, guest, first_halfword, expanded);
     Answer {
         ending,
         at_step: machine.step,
         at_walk_step: machine.walk_step,
         references: machine.references,
-        guest: handed_back,
+        guest,
     }
 }
 
+/// The same attempt, by the same rules, with the references counted only. Nothing is allocated.
+pub fn attempt_counted(
+    storage: &mut [u8],
+    keys: &mut [u8],
+    guest: &Guest,
+    first_halfword: u16,
+    expanded: bool,
+) -> CountedAnswer {
+    let mut machine = Machine::new(storage, keys, 0);
+    let (ending, guest) = run(&mut machine, guest, first_halfword, expanded);
+    CountedAnswer { ending, count: machine.references, guest }
+}
+
+/// Gives the ending and the record to hand back, which is moved on by zero bytes without completion.
+#[inline]
+fn run(
+    machine: &mut Machine<impl References>,
+    guest: &Guest,
+    first_halfword: u16,
+    expanded: bool,
+) -> (Ending, Guest) {
+    let performed = check_call(machine, guest, first_halfword).and_then(|instruction| {
+        perform(machine, guest, instruction, first_halfword, expanded)?;
+        Ok(instruction)
+    });
+    let (ending, moved_by) = match performed {
+        Ok(instruction) => (Ending::Completed, instruction.length()),
+        Err(ending) => (ending, 0),
+    };
+    (ending, guest.moved_on(moved_by))
+}
+
 /// Order: 10, 11, 12, 13, 9.
+#[inline]
 fn check_call(
-    storage: usize,
-    keys: usize,
+    machine: &Machine<impl References>,
     guest: &Guest,
     first_halfword: u16,
 ) -> Result<Instruction, Ending> {
+    let (storage, keys) = machine.sizes();
     if !storage.is_multiple_of(2_048) || !(2_048..=16_777_216).contains(&storage) {
         return Err(Ending::StorageSize);
     }
@@ -135,8 +180,9 @@ fn check_call(
     Ok(instruction)
 }
 
+#[inline]
 fn perform(
-    machine: &mut Machine,
+    machine: &mut Machine<impl References>,
     guest: &Guest,
     instruction: Instruction,
     first_halfword: u16,
@@ -149,5 +195,20 @@ fn perform(
         Instruction::StoreThenAnd => store_then_mask(machine, guest, Connective::And, immediate, expanded),
         Instruction::StoreThenOr => store_then_mask(machine, guest, Connective::Or, immediate, expanded),
         Instruction::SetStorageKey => set_storage_key(machine, guest, first_halfword),
+    }
+}
+
+#[cfg(test)]
+mod tests {
+    use super::*;
+
+    #[test]
+    fn every_operation_code_both_ways() {
+        for first_halfword in 0..=u16::MAX {
+            let named = Instruction::of_first_halfword(first_halfword);
+            let operation_code = (first_halfword >> 8) as u8;
+            let expected = Instruction::ALL.into_iter().find(|one| one.operation_code() == operation_code);
+            assert_eq!(named, expected);
+        }
     }
 }

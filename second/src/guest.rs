@@ -18,37 +18,44 @@ pub struct Guest {
 
 impl Guest {
     /// PSW bits 40-63.
+    #[inline]
     pub fn instruction_address(&self) -> u32 {
         word_bits(self.psw_32_63, 8, 31)
     }
 
     /// PSW bit 5.
+    #[inline]
     pub fn dat_on(&self) -> bool {
         word_bit(self.psw_0_31, 5)
     }
 
     /// PSW bits 8-11.
+    #[inline]
     pub fn psw_key(&self) -> u32 {
         word_bits(self.psw_0_31, 8, 11)
     }
 
     /// PSW bit 12.
+    #[inline]
     pub fn ec_mode(&self) -> bool {
         word_bit(self.psw_0_31, 12)
     }
 
     /// PSW bit 15.
+    #[inline]
     pub fn problem_state(&self) -> bool {
         word_bit(self.psw_0_31, 15)
     }
 
     /// A general register; only the four rightmost bits of the number are used.
+    #[inline]
     pub fn general_register(&self, number: u32) -> u32 {
         self.general_registers[(number & 15) as usize]
     }
 
     /// The displacement plus bits 8-31 of the base register, where base 0 means zero.
     /// The second halfword's bits 0-3 name the base, 4-15 are the displacement.
+    #[inline]
     pub fn effective_address(&self, second_halfword: u16) -> u32 {
         let base = u32::from(second_halfword >> 12);
         let displacement = u32::from(second_halfword & 0x0FFF);
@@ -57,11 +64,13 @@ impl Guest {
     }
 
     /// The MICBLOK address: bits 8-28 of control register 6, then three zeros.
+    #[inline]
     pub fn micblok_address(&self) -> u32 {
         word_bits(self.control_register_6, 8, 28) << 3
     }
 
-    /// The record after completion: instruction address moved on, modulo 2^24; nothing else changes.
+    /// The record with its instruction address moved on, modulo 2^24; nothing else changes.
+    #[inline]
     pub fn moved_on(&self, length: u32) -> Guest {
         let bits_32_39 = self.psw_32_63 & !address::ADDRESS_MASK;
         let next = address::add(self.instruction_address(), length);

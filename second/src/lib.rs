@@ -1,8 +1,11 @@
 //! Independent second implementation, from document 01 alone, of five instructions of the assist.
 
+#![forbid(unsafe_code)]
+
 pub mod access;
 pub mod address;
 pub mod attempt;
+pub mod bench_calls;
 pub mod bits;
 pub mod call;
 pub mod checksum;
@@ -15,6 +18,7 @@ pub mod generate;
 pub mod guest;
 pub mod machine;
 pub mod pairs;
+pub mod references;
 pub mod report;
 pub mod set_storage_key;
 pub mod set_system_mask;
@@ -24,8 +28,8 @@ pub mod store_then_mask;
 pub mod translation;
 pub mod vectors;
 
-pub use attempt::{attempt, Answer, Instruction};
+pub use attempt::{attempt, attempt_counted, Answer, CountedAnswer, Instruction};
 pub use call::{Call, Request, StorageImage};
 pub use ending::{Ending, Exception};
 pub use guest::Guest;
-pub use machine::{Reference, ReferenceKind};
+pub use references::{Reference, ReferenceKind, References};

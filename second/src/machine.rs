@@ -1,35 +1,21 @@
-//! Lent storage and keys, with the list of references made to them.
+//! Lent storage and keys, with what becomes of the references made to them.
+//!
+//! What the instructions are made of, here and in `access`, `translation` and `control_block`, is `inline(always)`.
+//! The compiler takes what comes after many tests for seldom used and left calls there, which made STCTL of
+//! sixteen registers slower by up to two thirds.
 
-use crate::address::{bytes_of_item, KEY_BLOCK};
+use crate::address::{add, KEY_BLOCK};
 use crate::ending::Ending;
-
-/// What an entry of the list of references is for.
-#[derive(Clone, Copy, Debug, PartialEq, Eq)]
-pub enum ReferenceKind {
-    ControlField,
-    VirtualRegister,
-    SegmentEntry,
-    PageEntry,
-    KeyConsulted,
-    KeySet,
-    InstructionHalfword,
-    OperandByte,
-    Store,
-}
-
-/// One entry of the list of references, with the bytes and the key that it names.
-#[derive(Clone, Debug, PartialEq, Eq)]
-pub struct Reference {
-    pub kind: ReferenceKind,
-    pub bytes: Vec<u32>,
-    pub key: Option<u32>,
-}
+use crate::references::{ReferenceKind, References};
 
 /// Storage, keys, the references so far and the step that the attempt has reached.
-pub struct Machine<'a> {
+///
+/// Before any access storage has been found to have at most 2^24 bytes, so an item that is a slice of it does
+/// not go round the top.
+pub struct Machine<'a, R> {
     storage: &'a mut [u8],
     keys: &'a mut [u8],
-    pub references: Vec<Reference>,
+    pub references: R,
     /// Step of the instruction; zero before the first.
     pub step: u8,
     /// Step of the translation walk in which an exception was found (7: real address not in storage,
@@ -37,66 +23,100 @@ pub struct Machine<'a> {
     pub walk_step: u8,
 }
 
-impl<'a> Machine<'a> {
-    pub fn new(storage: &'a mut [u8], keys: &'a mut [u8]) -> Machine<'a> {
-        Machine { storage, keys, references: Vec::new(), step: 0, walk_step: 0 }
+impl<'a, R: References> Machine<'a, R> {
+    #[inline(always)]
+    pub fn new(storage: &'a mut [u8], keys: &'a mut [u8], references: R) -> Machine<'a, R> {
+        Machine { storage, keys, references, step: 0, walk_step: 0 }
     }
 
-    /// Is every byte of the item in storage?
-    pub fn contains(&self, address: u32, length: u32) -> bool {
-        bytes_of_item(address, length).iter().all(|&byte| (byte as usize) < self.storage.len())
+    /// The numbers of bytes of storage and of keys.
+    #[inline(always)]
+    pub fn sizes(&self) -> (usize, usize) {
+        (self.storage.len(), self.keys.len())
     }
 
-    /// Fetch an item of up to four bytes at a real address; one entry is made.
+    /// Is every byte of the item of N bytes in storage?
+    #[inline(always)]
+    pub fn contains<const N: usize>(&self, address: u32) -> bool {
+        self.bytes::<N>(address).is_some()
+    }
+
+    /// Fetch the N bytes of an item at a real address; one entry is made.
     /// An item of which any byte is not in storage makes no entry: `None`.
-    pub fn fetch(&mut self, kind: ReferenceKind, address: u32, length: u32) -> Option<u32> {
-        if !self.contains(address, length) {
-            return None;
-        }
-        let bytes = bytes_of_item(address, length);
-        let value = bytes.iter().fold(0, |value, &byte| (value << 8) | u32::from(self.byte(byte)));
-        self.references.push(Reference { kind, bytes, key: None });
-        Some(value)
+    #[inline(always)]
+    pub fn fetch<const N: usize>(&mut self, kind: ReferenceKind, address: u32) -> Option<[u8; N]> {
+        let bytes = self.bytes(address)?;
+        self.references.item(kind, address, N as u32);
+        Some(bytes)
     }
 
     /// Fetch a control field or virtual register; a field not in storage gives ending 3 with the step number.
-    pub fn fetch_field(&mut self, kind: ReferenceKind, address: u32, length: u32) -> Result<u32, Ending> {
+    #[inline(always)]
+    pub fn fetch_field<const N: usize>(
+        &mut self,
+        kind: ReferenceKind,
+        address: u32,
+    ) -> Result<[u8; N], Ending> {
         let step = self.step;
-        self.fetch(kind, address, length).ok_or(Ending::NotInStorage { step })
+        self.fetch(kind, address).ok_or(Ending::NotInStorage { step })
     }
 
     /// Store bytes at a real address that has been found to be in storage; one entry is made.
-    pub fn store(&mut self, address: u32, values: &[u8]) {
-        let bytes = bytes_of_item(address, values.len() as u32);
-        for (&byte, &value) in bytes.iter().zip(values) {
-            if let Some(place) = self.storage.get_mut(byte as usize) {
-                *place = value;
-            }
+    #[inline(always)]
+    pub fn store<const N: usize>(&mut self, address: u32, bytes: [u8; N]) {
+        let start = address as usize;
+        match self.storage.get_mut(start..start + N) {
+            Some(item) => item.copy_from_slice(&bytes),
+            None => store_one_by_one(self.storage, address, &bytes),
         }
-        self.references.push(Reference { kind: ReferenceKind::Store, bytes, key: None });
+        self.references.item(ReferenceKind::Store, address, N as u32);
     }
 
     /// Consult the key of the block with this real address; one entry is made.
+    #[inline(always)]
     pub fn consult_key(&mut self, real_address: u32) -> u8 {
         let number = real_address / KEY_BLOCK;
-        self.references.push(Reference {
-            kind: ReferenceKind::KeyConsulted,
-            bytes: Vec::new(),
-            key: Some(number),
-        });
+        self.references.key(ReferenceKind::KeyConsulted, number);
         self.keys.get(number as usize).copied().unwrap_or(0)
     }
 
     /// Set the key of the block with this real address; one entry is made.
+    #[inline(always)]
     pub fn set_key(&mut self, real_address: u32, value: u8) {
         let number = real_address / KEY_BLOCK;
-        self.references.push(Reference { kind: ReferenceKind::KeySet, bytes: Vec::new(), key: Some(number) });
+        self.references.key(ReferenceKind::KeySet, number);
         if let Some(key) = self.keys.get_mut(number as usize) {
             *key = value;
         }
     }
 
-    fn byte(&self, address: u32) -> u8 {
-        self.storage.get(address as usize).copied().unwrap_or(0)
+    /// The bytes of an item, if all of them are in storage.
+    #[inline(always)]
+    fn bytes<const N: usize>(&self, address: u32) -> Option<[u8; N]> {
+        let start = address as usize;
+        match self.storage.get(start..start + N) {
+            Some(item) => item.try_into().ok(),
+            None => bytes_one_by_one(self.storage, address),
+        }
+    }
+}
+
+/// The bytes of an item that goes round the top, or is not in storage: each sum modulo 2^24.
+#[cold]
+fn bytes_one_by_one<const N: usize>(storage: &[u8], address: u32) -> Option<[u8; N]> {
+    let mut bytes = [0; N];
+    for (offset, byte) in (0..).zip(&mut bytes) {
+        *byte = *storage.get(add(address, offset) as usize)?;
+    }
+    Some(bytes)
+}
+
+/// Store an item that goes round the top.
+#[cold]
+fn store_one_by_one(storage: &mut [u8], address: u32, bytes: &[u8]) {
+    for (offset, &byte) in (0..).zip(bytes) {
+        if let Some(place) = storage.get_mut(add(address, offset) as usize) {
+            *place = byte;
+        }
     }
 }

@@ -4,7 +4,7 @@ use std::collections::BTreeSet;
 
 use crate::attempt::Answer;
 use crate::call::{Request, StorageImage};
-use crate::machine::ReferenceKind;
+use crate::references::ReferenceKind;
 
 /// Two lists on one starting storage, and an order of both in which each keeps its own order.
 #[derive(Clone, Debug, PartialEq, Eq)]

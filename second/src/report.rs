@@ -127,10 +127,8 @@ pub fn point(request: &Request, answer: &Answer) -> Point {
 
 /// The word MICRSEG in this storage, with zeros for bytes that are not there.
 pub fn micrseg(storage: &[u8], request: &Request) -> u32 {
-    let bytes = bytes_of_item(request.guest.micblok_address(), 4);
-    bytes
-        .iter()
-        .fold(0, |word, &byte| (word << 8) | u32::from(storage.get(byte as usize).copied().unwrap_or(0)))
+    bytes_of_item(request.guest.micblok_address(), 4)
+        .fold(0, |word, byte| (word << 8) | u32::from(storage.get(byte as usize).copied().unwrap_or(0)))
 }
 
 fn translation_words(request: &Request) -> &'static str {

@@ -2,10 +2,11 @@
 
 use crate::address::{add, subtract};
 use crate::bits::{halfword_bits, word_bit, word_bits};
-use crate::control_block::fetch_micrseg;
+use crate::control_block::{fetch_field_halfword, fetch_field_word, fetch_micrseg};
 use crate::ending::Ending;
 use crate::guest::Guest;
-use crate::machine::{Machine, ReferenceKind};
+use crate::machine::Machine;
+use crate::references::References;
 use crate::translation::{page_table_origin, segment_table_origin, Format};
 
 /// Reference bit 5 and change bit 6 of a key.
@@ -18,7 +19,11 @@ const KEY_BIT_7: u8 = 0x01;
 /// R1 bits 24-30.
 const VIRTUAL_KEY: u8 = 0xFE;
 
-pub fn set_storage_key(machine: &mut Machine, guest: &Guest, first_halfword: u16) -> Result<(), Ending> {
+pub fn set_storage_key(
+    machine: &mut Machine<impl References>,
+    guest: &Guest,
+    first_halfword: u16,
+) -> Result<(), Ending> {
     let r1 = guest.general_register(halfword_bits(first_halfword, 8, 11));
     let r2 = guest.general_register(halfword_bits(first_halfword, 12, 15));
     let new_key = word_bits(r1, 24, 31) as u8;
@@ -35,29 +40,27 @@ pub fn set_storage_key(machine: &mut Machine, guest: &Guest, first_halfword: u16
     let segment_entry = fetch_segment_entry(machine, micrseg, format, address)?;
     let page_table = page_table_origin(segment_entry);
     let (swap_address, swap_word) = fetch_swap_word(machine, page_table, format.page_index(address))?;
-    // (9) Page entry.
-    machine.step = 9;
-    let page_entry_address = add(page_table, 2 * format.page_index(address));
-    let page_entry = machine.fetch_field(ReferenceKind::ControlField, page_entry_address, 2)? as u16;
-    // (10) Valid with bits 13-14 not zero: refuse.
-    machine.step = 10;
-    let valid = !format.page_invalid(page_entry);
-    if valid && format.page_format_wrong(page_entry) {
-        return Err(Ending::REFUSE);
-    }
+    let real_address = fetch_page_entry(machine, page_table, format, address)?;
     // (11) If invalid, take both bits as zero and touch no key.
     machine.step = 11;
-    let key =
-        if valid { exchange_key(machine, format.real_address(page_entry, address), new_key)? } else { 0 };
+    let key = match real_address {
+        Some(real_address) => exchange_key(machine, real_address, new_key)?,
+        None => 0,
+    };
     // (12)
     machine.step = 12;
     let new_word = new_swap_word(swap_word, key, new_key, word_bit(address, 20));
-    machine.store(swap_address, &new_word);
+    machine.store(swap_address, new_word);
     Ok(())
 }
 
 /// Steps 3 and 4.
-fn check_micrseg(machine: &mut Machine, micrseg: u32, address: u32) -> Result<Format, Ending> {
+#[inline(always)]
+fn check_micrseg(
+    machine: &mut Machine<impl References>,
+    micrseg: u32,
+    address: u32,
+) -> Result<Format, Ending> {
     // (3) Its bit 30 one: refuse.
     machine.step = 3;
     if word_bit(micrseg, 30) {
@@ -73,8 +76,9 @@ fn check_micrseg(machine: &mut Machine, micrseg: u32, address: u32) -> Result<Fo
 }
 
 /// Steps 5 and 6.
+#[inline(always)]
 fn fetch_segment_entry(
-    machine: &mut Machine,
+    machine: &mut Machine<impl References>,
     micrseg: u32,
     format: Format,
     address: u32,
@@ -82,7 +86,7 @@ fn fetch_segment_entry(
     // (5) Segment entry; origin from MICRSEG bits 8-25.
     machine.step = 5;
     let entry_address = add(segment_table_origin(micrseg), 4 * format.segment_index(address));
-    let entry = machine.fetch_field(ReferenceKind::ControlField, entry_address, 4)?;
+    let entry = fetch_field_word(machine, entry_address)?;
     // (6) Bit 31 one, bits 4-7 not zero, or page index too long: refuse.
     machine.step = 6;
     let page_index_too_long = format.page_index_leftmost_four(address) > word_bits(entry, 0, 3);
@@ -93,21 +97,53 @@ fn fetch_segment_entry(
 }
 
 /// Steps 7 and 8: gives the address of the swap word, and the word.
-fn fetch_swap_word(machine: &mut Machine, page_table: u32, page_index: u32) -> Result<(u32, u32), Ending> {
+#[inline(always)]
+fn fetch_swap_word(
+    machine: &mut Machine<impl References>,
+    page_table: u32,
+    page_index: u32,
+) -> Result<(u32, u32), Ending> {
     // (7) Word at page-table origin - 4, the swap-table address (bits 8-31).
     machine.step = 7;
-    let word = machine.fetch_field(ReferenceKind::ControlField, subtract(page_table, 4), 4)?;
+    let word = fetch_field_word(machine, subtract(page_table, 4))?;
     let swap_table = word_bits(word, 8, 31);
     // (8) Word there + 8 times the page index.
     machine.step = 8;
     let swap_address = add(swap_table, 8 * page_index);
-    let swap_word = machine.fetch_field(ReferenceKind::ControlField, swap_address, 4)?;
+    let swap_word = fetch_field_word(machine, swap_address)?;
     Ok((swap_address, swap_word))
 }
 
+/// Steps 9 and 10: gives the real address if the page is valid.
+#[inline(always)]
+fn fetch_page_entry(
+    machine: &mut Machine<impl References>,
+    page_table: u32,
+    format: Format,
+    address: u32,
+) -> Result<Option<u32>, Ending> {
+    // (9) Page entry.
+    machine.step = 9;
+    let entry = fetch_field_halfword(machine, add(page_table, 2 * format.page_index(address)))?;
+    // (10) Valid with bits 13-14 not zero: refuse.
+    machine.step = 10;
+    if format.page_invalid(entry) {
+        return Ok(None);
+    }
+    if format.page_format_wrong(entry) {
+        return Err(Ending::REFUSE);
+    }
+    Ok(Some(format.real_address(entry, address)))
+}
+
 /// Step 11 for a valid page: gives the key as found.
-fn exchange_key(machine: &mut Machine, real_address: u32, new_key: u8) -> Result<u8, Ending> {
-    if !machine.contains(real_address, 1) {
+#[inline(always)]
+fn exchange_key(
+    machine: &mut Machine<impl References>,
+    real_address: u32,
+    new_key: u8,
+) -> Result<u8, Ending> {
+    if !machine.contains::<1>(real_address) {
         return Err(Ending::NotInStorage { step: machine.step });
     }
     let old = machine.consult_key(real_address);

@@ -8,6 +8,7 @@ use crate::control_block::{
 use crate::ending::Ending;
 use crate::guest::Guest;
 use crate::machine::Machine;
+use crate::references::References;
 
 /// Bits 1 and 5 of byte 0: PER mask and DAT mode.
 const BITS_1_5: u8 = 0x44;
@@ -16,7 +17,11 @@ const BITS_0_2_3_4: u8 = 0xB8;
 /// Bits 6 and 7 of byte 0.
 const BITS_6_7: u8 = 0x03;
 
-pub fn set_system_mask(machine: &mut Machine, guest: &Guest, expanded: bool) -> Result<(), Ending> {
+pub fn set_system_mask(
+    machine: &mut Machine<impl References>,
+    guest: &Guest,
+    expanded: bool,
+) -> Result<(), Ending> {
     // (1) Control register 6 bits 0-1 not 10: refuse.
     machine.step = 1;
     if word_bits(guest.control_register_6, 0, 1) != 0b10 {
@@ -27,7 +32,7 @@ pub fn set_system_mask(machine: &mut Machine, guest: &Guest, expanded: bool) -> 
     let ecblok = fetch_ecblok_address(machine, guest)?;
     // (3) Fetch virtual control register 0.
     machine.step = 3;
-    let virtual_control_register_0 = fetch_virtual_register(machine, ecblok, 0)?;
+    let virtual_control_register_0 = u32::from_be_bytes(fetch_virtual_register(machine, ecblok, 0)?);
     // (4) Its bit 1 one: refuse.
     machine.step = 4;
     if word_bit(virtual_control_register_0, 1) {
@@ -50,7 +55,7 @@ pub fn set_system_mask(machine: &mut Machine, guest: &Guest, expanded: bool) -> 
     check_new_mask(virtual_psw, new, micvpsw.pending, expanded)?;
     // (10) Store byte 0.
     machine.step = 10;
-    machine.store(micvpsw.address, &[new]);
+    machine.store(micvpsw.address, [new]);
     Ok(())
 }
 

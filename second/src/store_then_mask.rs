@@ -6,6 +6,7 @@ use crate::control_block::{fetch_micvpsw, fetch_virtual_psw, VirtualPsw};
 use crate::ending::Ending;
 use crate::guest::Guest;
 use crate::machine::Machine;
+use crate::references::References;
 use crate::store_control::bits_0_3_are_10x0;
 
 /// Bits 1 and 5 of byte 0: PER mask and DAT mode.
@@ -30,7 +31,7 @@ impl Connective {
 }
 
 pub fn store_then_mask(
-    machine: &mut Machine,
+    machine: &mut Machine<impl References>,
     guest: &Guest,
     connective: Connective,
     immediate: u8,
@@ -62,11 +63,11 @@ pub fn store_then_mask(
     // (6) Test operand for store, exception as itself.
     machine.step = 6;
     let operand = guest.effective_address(second_halfword);
-    let real_address = test_store(machine, guest, operand, 1)?;
+    let real_address = test_store::<1>(machine, guest, operand)?;
     // (7) Store the old byte at the operand, then the new byte as virtual PSW byte 0; no other byte.
     machine.step = 7;
-    machine.store(real_address, &[old]);
-    machine.store(micvpsw.address, &[new]);
+    machine.store(real_address, [old]);
+    machine.store(micvpsw.address, [new]);
     Ok(())
 }
 

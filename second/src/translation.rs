@@ -4,7 +4,8 @@ use crate::address::add;
 use crate::bits::{halfword_bit, halfword_bits, word_bit, word_bits};
 use crate::ending::Exception;
 use crate::guest::Guest;
-use crate::machine::{Machine, ReferenceKind};
+use crate::machine::Machine;
+use crate::references::{ReferenceKind, References};
 
 /// Page size and segment size.
 #[derive(Clone, Copy, Debug, PartialEq, Eq)]
@@ -22,6 +23,7 @@ impl Format {
     ];
 
     /// Walk step 1: control register 0 bits 8-12.
+    #[inline]
     pub fn of_control_register_0(control_register_0: u32) -> Option<Format> {
         match word_bits(control_register_0, 8, 12) {
             0b01000 => Some(Format { pages_of_4k: false, segments_of_1m: false }),
@@ -33,20 +35,24 @@ impl Format {
     }
 
     /// Address bits 8-15, or 8-11 for 1M.
+    #[inline]
     pub fn segment_index(self, address: u32) -> u32 {
         word_bits(address, 8, if self.segments_of_1m { 11 } else { 15 })
     }
 
     /// The page index starts at address bit 16 (64K) or 12 (1M) and ends at bit 19 (4K) or 20 (2K).
+    #[inline]
     pub fn page_index(self, address: u32) -> u32 {
         word_bits(address, self.page_index_start(), if self.pages_of_4k { 19 } else { 20 })
     }
 
     /// The four leftmost bits of the page index.
+    #[inline]
     pub fn page_index_leftmost_four(self, address: u32) -> u32 {
         word_bits(address, self.page_index_start(), self.page_index_start() + 3)
     }
 
+    #[inline]
     fn page_index_start(self) -> u32 {
         if self.segments_of_1m {
             12
@@ -56,16 +62,19 @@ impl Format {
     }
 
     /// Invalid bit of a page entry: 12 for 4K, 13 for 2K.
+    #[inline]
     pub fn page_invalid(self, page_entry: u16) -> bool {
         halfword_bit(page_entry, if self.pages_of_4k { 12 } else { 13 })
     }
 
     /// For 4K bits 13-14, for 2K bit 14, not zero.
+    #[inline]
     pub fn page_format_wrong(self, page_entry: u16) -> bool {
         halfword_bits(page_entry, if self.pages_of_4k { 13 } else { 14 }, 14) != 0
     }
 
     /// Frame (bits 0-11 or 0-12) and the remaining address bits.
+    #[inline]
     pub fn real_address(self, page_entry: u16, address: u32) -> u32 {
         if self.pages_of_4k {
             (halfword_bits(page_entry, 0, 11) << 12) | word_bits(address, 20, 31)
@@ -76,17 +85,24 @@ impl Format {
 }
 
 /// Segment-table origin: bits 8-25, six zeros (control register 1, MICRSEG).
+#[inline]
 pub fn segment_table_origin(word: u32) -> u32 {
     word_bits(word, 8, 25) << 6
 }
 
 /// Page-table origin: segment entry bits 8-28, three zeros.
+#[inline]
 pub fn page_table_origin(segment_entry: u32) -> u32 {
     word_bits(segment_entry, 8, 28) << 3
 }
 
 /// The real address of a logical address; the first exception found ends the walk.
-pub fn translate(machine: &mut Machine, guest: &Guest, logical_address: u32) -> Result<u32, Exception> {
+#[inline(always)]
+pub fn translate(
+    machine: &mut Machine<impl References>,
+    guest: &Guest,
+    logical_address: u32,
+) -> Result<u32, Exception> {
     // With DAT off a logical address is real.
     if !guest.dat_on() {
         return Ok(logical_address);
@@ -114,8 +130,9 @@ pub fn translate(machine: &mut Machine, guest: &Guest, logical_address: u32) -> 
 }
 
 /// Walk step 3.
+#[inline(always)]
 fn fetch_segment_entry(
-    machine: &mut Machine,
+    machine: &mut Machine<impl References>,
     guest: &Guest,
     format: Format,
     logical_address: u32,
@@ -123,9 +140,10 @@ fn fetch_segment_entry(
     machine.walk_step = 3;
     let origin = segment_table_origin(guest.control_register_1);
     let entry_address = add(origin, 4 * format.segment_index(logical_address));
-    let Some(entry) = machine.fetch(ReferenceKind::SegmentEntry, entry_address, 4) else {
+    let Some(bytes) = machine.fetch(ReferenceKind::SegmentEntry, entry_address) else {
         return Err(Exception::Addressing);
     };
+    let entry = u32::from_be_bytes(bytes);
     if word_bit(entry, 31) {
         return Err(Exception::SegmentTranslation { logical_address });
     }
@@ -136,18 +154,19 @@ fn fetch_segment_entry(
 }
 
 /// Walk step 5.
+#[inline(always)]
 fn fetch_page_entry(
-    machine: &mut Machine,
+    machine: &mut Machine<impl References>,
     segment_entry: u32,
     format: Format,
     logical_address: u32,
 ) -> Result<u16, Exception> {
     machine.walk_step = 5;
     let entry_address = add(page_table_origin(segment_entry), 2 * format.page_index(logical_address));
-    let Some(entry) = machine.fetch(ReferenceKind::PageEntry, entry_address, 2) else {
+    let Some(bytes) = machine.fetch(ReferenceKind::PageEntry, entry_address) else {
         return Err(Exception::Addressing);
     };
-    let entry = entry as u16;
+    let entry = u16::from_be_bytes(bytes);
     if format.page_invalid(entry) {
         return Err(Exception::PageTranslation { logical_address });
     }

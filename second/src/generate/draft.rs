@@ -100,13 +100,13 @@ impl Draft {
     /// Is every byte of the item in storage, and in the part that the draft keeps to?
     pub fn contains(&self, address: u32, length: u32) -> bool {
         let in_part = |byte: u32| self.part.is_empty() || self.part[(byte / 2048) as usize];
-        bytes_of_item(address, length).iter().all(|&byte| byte < self.size() && in_part(byte))
+        bytes_of_item(address, length).all(|byte| byte < self.size() && in_part(byte))
     }
 
     /// In storage, and no byte is taken.
     pub fn free(&self, address: u32, length: u32) -> bool {
         let taken = |byte: u32| self.used.iter().any(|&(start, taken)| subtract(byte, start) < taken);
-        self.contains(address, length) && !bytes_of_item(address, length).into_iter().any(taken)
+        self.contains(address, length) && !bytes_of_item(address, length).any(taken)
     }
 
     pub fn take(&mut self, address: u32, length: u32) {

@@ -5,7 +5,7 @@ use std::collections::BTreeMap;
 use crate::attempt::{Answer, Instruction};
 use crate::call::Call;
 use crate::generate::{generate_of_size, LARGEST, LARGEST_LARGE};
-use crate::machine::ReferenceKind;
+use crate::references::ReferenceKind;
 use crate::report::{point, Point};
 
 /// Calls among which the one with the most seldom ending is chosen.

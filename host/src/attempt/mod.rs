@@ -1,0 +1,78 @@
+//! `vma attempt`: one call on files.
+
+mod files;
+mod guest_file;
+mod lent;
+mod options;
+
+use std::ffi::OsString;
+
+use crate::answer::Answer;
+use crate::changes::{self, State};
+use crate::command::{self, Command, Failure, Report};
+use crate::library;
+use crate::record;
+use crate::words;
+use files::{Files, Start};
+use options::Options;
+
+pub const COMMAND: Command = Command { name: "attempt", help: HELP, run };
+
+const HELP: &str = "usage: vma attempt --storage FILE --keys FILE --guest FILE --first HEX [--expanded]
+
+Makes one attempt at the instruction whose first halfword is HEX (4 hex digits), by the proved library.
+
+  --storage FILE  the bytes of storage
+  --keys FILE     one key byte for each 2,048 bytes of storage
+  --guest FILE    the guest's record, as text: 21 words of 8 hex digits between white space; # begins a
+                  comment. In this order: PSW bits 0-31, PSW bits 32-63, general registers 0-15, control
+                  registers 0, 1 and 6. The PSW holds the address of this instruction.
+  --first HEX     the first halfword of the instruction
+  --expanded      the expanded assist is installed
+
+Prints the ending, the count of references, the next instruction address, and each byte, key and word of the
+record that changed, old -> new. If the attempt completes, the three files are written anew; with any other
+ending they stay as they are. The new contents go to FILE.new beside each, and then take FILE's place: if that
+is cut short, the next start says so, and either undoes it or finishes it.
+
+Status: 0 completed; 1 error; 2 wrong usage; 3 an earlier call was finished, and no other made; 4 any other
+ending than completion.
+";
+
+fn run(words: &[OsString]) -> Result<Report, Failure> {
+    let options = Options::parse(words)?;
+    let files = match Files::open(&options)? {
+        Start::Ready(files) => files,
+        Start::Finished => return Ok(Report::new(String::new(), command::FINISHED_EARLIER)),
+    };
+    let before = files.read()?;
+    let mut after = before.clone();
+    let result = library::attempt(
+        &mut after.storage,
+        &mut after.keys,
+        &mut after.record,
+        options.first_halfword,
+        options.expanded,
+    );
+    let answer = Answer::unpack(result);
+    if answer.completed() {
+        files.replace(&after)?;
+    }
+    Ok(report(answer, &before, &after))
+}
+
+fn report(answer: Answer, before: &State, after: &State) -> Report {
+    let next = record::instruction_address(&after.record);
+    let mut lines = vec![
+        format!("ending {}", words::ending(answer)),
+        format!("references {}", answer.count),
+        format!("next instruction address {next:06X}"),
+    ];
+    lines.extend(changes::place_lines(before, after, changes::changed));
+    lines.extend(changes::record_lines(&before.record, &after.record, changes::changed));
+    if !answer.completed() {
+        lines.push("nothing changed".into());
+    }
+    let status = if answer.completed() { command::COMPLETED } else { command::OTHER_ENDING };
+    Report { text: lines.join("\n") + "\n", status, files_written: answer.completed() }
+}

@@ -1,0 +1,89 @@
+//! `vma demo`: the edges of document 01 through the library, and whether the second program says the same.
+
+use std::ffi::OsString;
+
+use second::edges::{self, Edge};
+use second::Instruction;
+
+use crate::changes;
+use crate::command::{self, unknown, Command, Failure, Report};
+use crate::record;
+use crate::sides::{self, Made};
+use crate::words;
+
+pub const COMMAND: Command = Command { name: "demo", help: HELP, run };
+
+const HELP: &str = "usage: vma demo
+
+Runs the edges of document 01 (section \"Edges to show\") and its wrong turns through the proved library, and
+prints for each what comes of it: the ending, the count of references, the next instruction address, and the
+bytes and keys that changed, old -> new. (*) marks the edges that are also proved, as one table. Addresses and
+bytes are hex; endings, codes, steps, counts and block numbers are decimal.
+
+Each answer is compared with the second program's: its numbers, the record, every byte and every key. If one
+differs, it is said where, and the status is 1.
+";
+
+fn run(words: &[OsString]) -> Result<Report, Failure> {
+    if let Some(word) = words.first() {
+        return Err(unknown(word));
+    }
+    let mut all = edges::small();
+    all.extend(edges::large());
+    if let Some(edge) = all.iter().find(|edge| instruction_of(edge).is_none()) {
+        return Err(Failure::Error(format!("an edge is of none of the five instructions: {}", edge.case)));
+    }
+    let (mut text, mut differing) = (String::new(), 0);
+    for instruction in Instruction::ALL {
+        text.push_str(&heading(instruction));
+        for edge in all.iter().filter(|edge| instruction_of(edge) == Some(instruction)) {
+            let (lines, differs) = show(edge);
+            text.push_str(&lines);
+            differing += usize::from(differs);
+        }
+    }
+    text.push_str(&conclusion(all.len(), differing));
+    Ok(Report::new(text, if differing == 0 { command::COMPLETED } else { command::ERROR }))
+}
+
+fn instruction_of(edge: &Edge) -> Option<Instruction> {
+    Instruction::of_first_halfword(edge.request.first_halfword)
+}
+
+fn heading(instruction: Instruction) -> String {
+    let name = match instruction {
+        Instruction::SetSystemMask => "SET SYSTEM MASK",
+        Instruction::StoreControl => "STORE CONTROL",
+        Instruction::StoreThenAnd => "STORE THEN AND SYSTEM MASK",
+        Instruction::StoreThenOr => "STORE THEN OR SYSTEM MASK",
+        Instruction::SetStorageKey => "SET STORAGE KEY",
+    };
+    format!("{name} ({}, {:02X})\n\n", instruction.mnemonic(), instruction.operation_code())
+}
+
+/// An edge's paragraph, and whether the two programs differ.
+fn show(edge: &Edge) -> (String, bool) {
+    let before = sides::before(&edge.image, &edge.request);
+    let library = sides::make(sides::library, &edge.image, &edge.request);
+    let second = sides::make(sides::listed, &edge.image, &edge.request);
+    let differences = sides::differences(&library, &second);
+    let mark = if edge.marked { "(*) " } else { "" };
+    let mut lines = vec![format!("  {mark}{}", edge.case), format!("      {}", answer_line(&library))];
+    let changes = changes::place_lines(&before, &library.after, changes::changed);
+    lines.extend(changes.iter().map(|line| format!("      {line}")));
+    lines.extend(differences.iter().map(|line| format!("      DIFFERS: {line}")));
+    (lines.join("\n") + "\n\n", !differences.is_empty())
+}
+
+fn answer_line(made: &Made) -> String {
+    let references = sides::references(made.answer.count);
+    let next = record::instruction_address(&made.after.record);
+    format!("{}; {references}; next instruction address {next:06X}", words::ending(made.answer))
+}
+
+fn conclusion(edges: usize, differing: usize) -> String {
+    match differing {
+        0 => format!("{edges} edges; each answer is the second program's\n"),
+        _ => format!("{edges} edges; {differing} differ from the second program, see DIFFERS above\n"),
+    }
+}

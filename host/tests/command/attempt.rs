@@ -1,0 +1,141 @@
+//! Attempts that complete.
+
+use crate::case::{record, ssk, ssm, storage, Case, MICCREG, MICVPSW, SECOND_HALFWORD};
+
+/// The instruction address moved on, and nothing else in the record.
+fn moved_on(before: &[u32; 21], next: u32) -> Vec<u32> {
+    let mut after = before.to_vec();
+    after[1] = next;
+    after
+}
+
+#[test]
+fn set_system_mask() {
+    let case = ssm(0x07);
+    let (mut storage, keys) = (case.read("storage"), case.read("keys"));
+    let run = case.run();
+    // MICCREG, virtual register 0; key and fetch of the second halfword, and of the operand; MICVPSW, virtual
+    // PSW; the store.
+    let expected = "ending 0 completed\n\
+                    references 9\n\
+                    next instruction address 001004\n\
+                    storage 000600: 04 -> 07\n\
+                    record PSW bits 32-63: 00001000 -> 00001004\n";
+    assert_eq!((run.status, run.output.as_str(), run.messages.as_str()), (Some(0), expected, ""));
+    storage[0x600] = 0x07;
+    assert_eq!(case.read("storage"), storage);
+    assert_eq!(case.read("keys"), keys);
+    assert_eq!(case.record(), moved_on(&record(), 0x1004));
+    assert_eq!(case.names(), ["guest", "keys", "storage"]);
+}
+
+#[test]
+fn store_control() {
+    let registers: Vec<u8> = (0..64).map(|byte| 0x80 + byte).collect();
+    let places: [(usize, &[u8]); 3] = [MICCREG, SECOND_HALFWORD, (0x500, &registers)];
+    let mut storage = storage(0x4000, &places);
+    let case = Case::new("B6E1", &storage, &record());
+    let run = case.run();
+    // MICCREG; key and fetch of the second halfword; four registers, four keys, four stores.
+    let expected = "ending 0 completed\n\
+                    references 15\n\
+                    next instruction address 001004\n\
+                    storage 002000: 00 00 00 00 00 00 00 00 -> B8 B9 BA BB BC BD BE BF\n\
+                    storage 002008: 00 00 00 00 00 00 00 00 -> 80 81 82 83 84 85 86 87\n\
+                    record PSW bits 32-63: 00001000 -> 00001004\n";
+    assert_eq!((run.status, run.output.as_str()), (Some(0), expected));
+    storage[0x2000..0x2008].copy_from_slice(&registers[56..]);
+    storage[0x2008..0x2010].copy_from_slice(&registers[..8]);
+    assert_eq!(case.read("storage"), storage);
+    assert_eq!(case.record(), moved_on(&record(), 0x1004));
+}
+
+#[test]
+fn store_then_and_system_mask() {
+    let places: [(usize, &[u8]); 3] = [MICVPSW, SECOND_HALFWORD, (0x600, &[0x07, 0x08])];
+    let mut storage = storage(0x4000, &places);
+    let case = Case::new("acfc", &storage, &record());
+    let run = case.run();
+    // MICVPSW, virtual PSW; key and fetch of the second halfword; key of the operand; two stores.
+    let expected = "ending 0 completed\n\
+                    references 7\n\
+                    next instruction address 001004\n\
+                    storage 000600: 07 -> 04\n\
+                    storage 002000: 00 -> 07\n\
+                    record PSW bits 32-63: 00001000 -> 00001004\n";
+    assert_eq!((run.status, run.output.as_str()), (Some(0), expected));
+    (storage[0x600], storage[0x2000]) = (0x04, 0x07);
+    assert_eq!(case.read("storage"), storage);
+}
+
+#[test]
+fn store_then_or_system_mask_while_an_interruption_is_pending() {
+    let places: [(usize, &[u8]); 3] = [(0x408, &[0x80, 0, 6, 0]), SECOND_HALFWORD, (0x600, &[0x07, 0x08])];
+    let case = Case::new("AD03", &storage(0x4000, &places), &record());
+    let run = case.run();
+    assert_eq!(run.status, Some(0));
+    assert!(run.output.contains("\nstorage 002000: 00 -> 07\nrecord"), "{}", run.output);
+}
+
+#[test]
+fn set_storage_key() {
+    let case = ssk();
+    let mut storage = case.read("storage");
+    let before: [u32; 21] = case.record().try_into().expect("21 words");
+    let run = case.run();
+    // MICRSEG, segment entry, swap-table address, swap word, page entry; key consulted and set; the store.
+    let expected = "ending 0 completed\n\
+                    references 8\n\
+                    next instruction address 001002\n\
+                    storage 000D18: 00 00 00 -> 08 00 3E\n\
+                    key of block 2 (001000-0017FF): 04 -> 38\n\
+                    record PSW bits 32-63: 00001000 -> 00001002\n";
+    assert_eq!((run.status, run.output.as_str()), (Some(0), expected));
+    storage[0xD18..0xD1C].copy_from_slice(&[0x08, 0x00, 0x3E, 0x00]);
+    assert_eq!(case.read("storage"), storage);
+    assert_eq!(case.read("keys"), [0, 0, 0x38, 0, 0, 0, 0, 0]);
+    assert_eq!(case.record(), moved_on(&before, 0x1002));
+}
+
+#[test]
+fn sixteen_mebibytes_with_an_operand_that_goes_round() {
+    let registers: Vec<u8> = (0..64).map(|byte| 0x80 + byte).collect();
+    let places: [(usize, &[u8]); 3] = [MICCREG, SECOND_HALFWORD, (0x500, &registers)];
+    let mut storage = storage(0x100_0000, &places);
+    let mut record = record();
+    record[2 + 2] = 0x00FF_FFEC; // and displacement 010: FFFFFC
+    let case = Case::new("B667", &storage, &record);
+    let run = case.run();
+    let expected = "ending 0 completed\n\
+                    references 9\n\
+                    next instruction address 001004\n\
+                    storage 000000: 00 00 00 00 -> 9C 9D 9E 9F\n\
+                    storage FFFFFC: 00 00 00 00 -> 98 99 9A 9B\n\
+                    record PSW bits 32-63: 00001000 -> 00001004\n";
+    assert_eq!((run.status, run.output.as_str()), (Some(0), expected));
+    storage[0xFF_FFFC..].copy_from_slice(&registers[24..28]);
+    storage[..4].copy_from_slice(&registers[28..32]);
+    assert!(case.read("storage") == storage);
+}
+
+#[test]
+fn the_guest_file_is_written_in_the_form_in_which_it_is_read() {
+    let case = ssk();
+    assert_eq!(case.run().status, Some(0));
+    let expected = "# PSW bits 0-31, PSW bits 32-63, general registers 0-15, control registers 0, 1 and 6\n\
+                    00090000 00001002\n\
+                    00000000 00000000 5A001FF0 ABCDEF3F\n\
+                    5A023000 00000000 00000000 00000000\n\
+                    00000000 00000000 00000000 00000000\n\
+                    00000000 00000000 00000000 00000000\n\
+                    00000000 00000000 80000400\n";
+    assert_eq!(String::from_utf8(case.read("guest")).as_deref(), Ok(expected));
+    let run = case.run();
+    assert_eq!(run.status, Some(0));
+    // The key found now is the one that was set; its reference and change bits are zero.
+    let expected = "ending 0 completed\n\
+                    references 8\n\
+                    next instruction address 001004\n\
+                    record PSW bits 32-63: 00001002 -> 00001004\n";
+    assert_eq!(run.output, expected);
+}

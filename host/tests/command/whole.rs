@@ -1,0 +1,70 @@
+//! The commands that compare the library with the second program.
+
+use crate::case::vma;
+
+#[test]
+fn demo() {
+    let run = vma(&["demo"]);
+    assert_eq!((run.status, run.messages.as_str()), (Some(0), ""));
+    assert!(run.output.ends_with("\n41 edges; each answer is the second program's\n"));
+    for expected in [
+        "SET SYSTEM MASK (SSM, 80)\n\n  (*) EC, old 04, new 07\n      \
+         0 completed; 9 references; next instruction address 001004\n      storage 000600: 04 -> 07\n\n",
+        "  (*) EC, old 04, new 84, expanded installed\n      \
+         2 handed to the expanded assist; 8 references; next instruction address 001000\n\n",
+        "STORE CONTROL (STCTL, B6)\n",
+        "STORE THEN AND SYSTEM MASK (STNSM, AC)\n",
+        "STORE THEN OR SYSTEM MASK (STOSM, AD)\n",
+        "SET STORAGE KEY (SSK, 08)\n",
+        "bit 20 zero\n      0 completed; 8 references; next instruction address 001002\n      \
+         storage 000D18: 00 00 00 -> 08 00 3E\n      key of block 2 (001000-0017FF): 04 -> 38\n\n",
+        "bit 20 one\n      0 completed; 8 references; next instruction address 001002\n      \
+         storage 000D18: 00 00 00 00 -> 02 00 00 3E\n      key of block 3 (001800-001FFF): 04 -> 38\n\n",
+        "  operand FFFFFC, two registers, 16 MiB, key zero: goes round to 000000\n      \
+         0 completed; 9 references; next instruction address 001004\n      storage 000000: ",
+        "  storage one block over 16 MiB\n      10 storage is not a multiple of 2,048 bytes",
+    ] {
+        assert!(run.output.contains(expected), "{expected}");
+    }
+}
+
+/// The number of calls in each line of the tally.
+fn tally(output: &str) -> Vec<u64> {
+    let lines = output.lines().skip(2);
+    lines.map(|line| line.split_whitespace().next().expect("a number").parse().expect("a number")).collect()
+}
+
+#[test]
+fn fuzz() {
+    for (words, calls) in [
+        (&["fuzz", "7", "20000"][..], 20_000),
+        (&["fuzz", "8", "20000", "--largest", "65536"], 20_000),
+        (&["fuzz", "9", "5000", "--largest", "2048"], 5_000),
+        (&["fuzz", "9", "100", "--largest", "18446744073709551615"], 100),
+        (&["fuzz", "10", "1"], 1),
+    ] {
+        let run = vma(words);
+        assert_eq!((run.status, run.messages.as_str()), (Some(0), ""), "{}", run.output);
+        assert!(run.output.starts_with(&format!("{calls} calls, none differs\n       calls  ended with\n")));
+        assert_eq!(tally(&run.output).iter().sum::<u64>(), calls);
+        assert_eq!(vma(words).output, run.output, "the same again");
+    }
+    assert_eq!(vma(&["fuzz", "1", "0"]).output, "0 calls, none differs\n       calls  ended with\n");
+}
+
+#[test]
+fn fuzz_reaches_every_ending() {
+    let run = vma(&["fuzz", "1", "20000"]);
+    // Completed, six codes, and endings 2, 3, 9, 10, 11, 12 and 13.
+    assert_eq!(tally(&run.output).len(), 14, "{}", run.output);
+}
+
+#[test]
+fn bench() {
+    let run = vma(&["bench", "--quick"]);
+    assert_eq!((run.status, run.messages.as_str()), (Some(0), ""));
+    let rows = run.output.lines().filter(|line| line.contains("  DAT "));
+    assert_eq!(rows.count(), 20);
+    assert!(run.output.contains("\nlargest ratio library / plain: "));
+    assert!(run.output.contains("\nlargest ratio of the library in 16 MiB / 64 KiB: "));
+}

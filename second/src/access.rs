@@ -15,7 +15,7 @@ enum Access {
 }
 
 /// Fetch the second halfword at the instruction address + 2.
-#[inline(always)]
+#[inline]
 pub fn fetch_second_halfword(
     machine: &mut Machine<impl References>,
     guest: &Guest,
@@ -25,7 +25,7 @@ pub fn fetch_second_halfword(
 }
 
 /// Fetch an operand byte at a logical address.
-#[inline(always)]
+#[inline]
 pub fn fetch_operand_byte(
     machine: &mut Machine<impl References>,
     guest: &Guest,
@@ -35,7 +35,7 @@ pub fn fetch_operand_byte(
 }
 
 /// Test an item of N bytes at a logical address for store access; gives the real address.
-#[inline(always)]
+#[inline]
 pub fn test_store<const N: usize>(
     machine: &mut Machine<impl References>,
     guest: &Guest,
@@ -44,7 +44,7 @@ pub fn test_store<const N: usize>(
     test::<N>(machine, guest, logical, Access::Store)
 }
 
-#[inline(always)]
+#[inline]
 fn fetch<const N: usize>(
     machine: &mut Machine<impl References>,
     guest: &Guest,
@@ -56,7 +56,7 @@ fn fetch<const N: usize>(
 }
 
 /// Segment entry, page entry (DAT on only), real address in storage, key.
-#[inline(always)]
+#[inline]
 fn test<const N: usize>(
     machine: &mut Machine<impl References>,
     guest: &Guest,
@@ -80,7 +80,7 @@ fn test<const N: usize>(
 }
 
 /// A store passes if the PSW key is zero or equals the access bits; a fetch passes also if the fetch bit is zero.
-#[inline(always)]
+#[inline]
 fn access_permitted(psw_key: u32, key: u8, access: Access) -> bool {
     let key_byte = u32::from(key) << 24;
     let access_bits = word_bits(key_byte, 0, 3);

@@ -8,32 +8,32 @@ use crate::machine::Machine;
 use crate::references::{ReferenceKind, References};
 
 /// A word that is a control field.
-#[inline(always)]
+#[inline]
 pub fn fetch_field_word(machine: &mut Machine<impl References>, address: u32) -> Result<u32, Ending> {
     machine.fetch_field(ReferenceKind::ControlField, address).map(u32::from_be_bytes)
 }
 
 /// A halfword that is a control field.
-#[inline(always)]
+#[inline]
 pub fn fetch_field_halfword(machine: &mut Machine<impl References>, address: u32) -> Result<u16, Ending> {
     machine.fetch_field(ReferenceKind::ControlField, address).map(u16::from_be_bytes)
 }
 
 /// MICRSEG is at offset 0.
-#[inline(always)]
+#[inline]
 pub fn fetch_micrseg(machine: &mut Machine<impl References>, guest: &Guest) -> Result<u32, Ending> {
     fetch_field_word(machine, guest.micblok_address())
 }
 
 /// MICCREG, at offset 4, gives the ECBLOK address in bits 8-31.
-#[inline(always)]
+#[inline]
 pub fn fetch_ecblok_address(machine: &mut Machine<impl References>, guest: &Guest) -> Result<u32, Ending> {
     let miccreg = fetch_field_word(machine, add(guest.micblok_address(), 4))?;
     Ok(word_bits(miccreg, 8, 31))
 }
 
 /// Virtual control register r is the word at ECBLOK + 4r; gives its four bytes.
-#[inline(always)]
+#[inline]
 pub fn fetch_virtual_register(
     machine: &mut Machine<impl References>,
     ecblok: u32,
@@ -50,7 +50,7 @@ pub struct Micvpsw {
 }
 
 /// MICVPSW is at offset 8.
-#[inline(always)]
+#[inline]
 pub fn fetch_micvpsw(machine: &mut Machine<impl References>, guest: &Guest) -> Result<Micvpsw, Ending> {
     let word = fetch_field_word(machine, add(guest.micblok_address(), 8))?;
     Ok(Micvpsw { address: word_bits(word, 8, 31), pending: word_bit(word, 0) })
@@ -65,7 +65,7 @@ pub struct VirtualPsw {
 }
 
 /// The first halfword of the virtual PSW.
-#[inline(always)]
+#[inline]
 pub fn fetch_virtual_psw(
     machine: &mut Machine<impl References>,
     micvpsw: Micvpsw,

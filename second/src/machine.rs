@@ -1,8 +1,6 @@
 //! Lent storage and keys, with what becomes of the references made to them.
 //!
-//! What the instructions are made of, here and in `access`, `translation` and `control_block`, is `inline(always)`.
-//! The compiler takes what comes after many tests for seldom used and left calls there, which made STCTL of
-//! sixteen registers slower by up to two thirds.
+//! The small functions are `inline`, as they are used from another crate too; nothing forces the compiler.
 
 use crate::address::{add, KEY_BLOCK};
 use crate::ending::Ending;
@@ -24,26 +22,26 @@ pub struct Machine<'a, R> {
 }
 
 impl<'a, R: References> Machine<'a, R> {
-    #[inline(always)]
+    #[inline]
     pub fn new(storage: &'a mut [u8], keys: &'a mut [u8], references: R) -> Machine<'a, R> {
         Machine { storage, keys, references, step: 0, walk_step: 0 }
     }
 
     /// The numbers of bytes of storage and of keys.
-    #[inline(always)]
+    #[inline]
     pub fn sizes(&self) -> (usize, usize) {
         (self.storage.len(), self.keys.len())
     }
 
     /// Is every byte of the item of N bytes in storage?
-    #[inline(always)]
+    #[inline]
     pub fn contains<const N: usize>(&self, address: u32) -> bool {
         self.bytes::<N>(address).is_some()
     }
 
     /// Fetch the N bytes of an item at a real address; one entry is made.
     /// An item of which any byte is not in storage makes no entry: `None`.
-    #[inline(always)]
+    #[inline]
     pub fn fetch<const N: usize>(&mut self, kind: ReferenceKind, address: u32) -> Option<[u8; N]> {
         let bytes = self.bytes(address)?;
         self.references.item(kind, address, N as u32);
@@ -51,7 +49,7 @@ impl<'a, R: References> Machine<'a, R> {
     }
 
     /// Fetch a control field or virtual register; a field not in storage gives ending 3 with the step number.
-    #[inline(always)]
+    #[inline]
     pub fn fetch_field<const N: usize>(
         &mut self,
         kind: ReferenceKind,
@@ -62,7 +60,7 @@ impl<'a, R: References> Machine<'a, R> {
     }
 
     /// Store bytes at a real address that has been found to be in storage; one entry is made.
-    #[inline(always)]
+    #[inline]
     pub fn store<const N: usize>(&mut self, address: u32, bytes: [u8; N]) {
         let start = address as usize;
         match self.storage.get_mut(start..start + N) {
@@ -73,7 +71,7 @@ impl<'a, R: References> Machine<'a, R> {
     }
 
     /// Consult the key of the block with this real address; one entry is made.
-    #[inline(always)]
+    #[inline]
     pub fn consult_key(&mut self, real_address: u32) -> u8 {
         let number = real_address / KEY_BLOCK;
         self.references.key(ReferenceKind::KeyConsulted, number);
@@ -81,7 +79,7 @@ impl<'a, R: References> Machine<'a, R> {
     }
 
     /// Set the key of the block with this real address; one entry is made.
-    #[inline(always)]
+    #[inline]
     pub fn set_key(&mut self, real_address: u32, value: u8) {
         let number = real_address / KEY_BLOCK;
         self.references.key(ReferenceKind::KeySet, number);
@@ -91,7 +89,7 @@ impl<'a, R: References> Machine<'a, R> {
     }
 
     /// The bytes of an item, if all of them are in storage.
-    #[inline(always)]
+    #[inline]
     fn bytes<const N: usize>(&self, address: u32) -> Option<[u8; N]> {
         let start = address as usize;
         match self.storage.get(start..start + N) {

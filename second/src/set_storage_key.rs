@@ -55,7 +55,7 @@ pub fn set_storage_key(
 }
 
 /// Steps 3 and 4.
-#[inline(always)]
+#[inline]
 fn check_micrseg(
     machine: &mut Machine<impl References>,
     micrseg: u32,
@@ -76,7 +76,7 @@ fn check_micrseg(
 }
 
 /// Steps 5 and 6.
-#[inline(always)]
+#[inline]
 fn fetch_segment_entry(
     machine: &mut Machine<impl References>,
     micrseg: u32,
@@ -97,7 +97,7 @@ fn fetch_segment_entry(
 }
 
 /// Steps 7 and 8: gives the address of the swap word, and the word.
-#[inline(always)]
+#[inline]
 fn fetch_swap_word(
     machine: &mut Machine<impl References>,
     page_table: u32,
@@ -115,7 +115,7 @@ fn fetch_swap_word(
 }
 
 /// Steps 9 and 10: gives the real address if the page is valid.
-#[inline(always)]
+#[inline]
 fn fetch_page_entry(
     machine: &mut Machine<impl References>,
     page_table: u32,
@@ -137,7 +137,7 @@ fn fetch_page_entry(
 }
 
 /// Step 11 for a valid page: gives the key as found.
-#[inline(always)]
+#[inline]
 fn exchange_key(
     machine: &mut Machine<impl References>,
     real_address: u32,

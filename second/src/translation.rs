@@ -97,7 +97,7 @@ pub fn page_table_origin(segment_entry: u32) -> u32 {
 }
 
 /// The real address of a logical address; the first exception found ends the walk.
-#[inline(always)]
+#[inline]
 pub fn translate(
     machine: &mut Machine<impl References>,
     guest: &Guest,
@@ -130,7 +130,7 @@ pub fn translate(
 }
 
 /// Walk step 3.
-#[inline(always)]
+#[inline]
 fn fetch_segment_entry(
     machine: &mut Machine<impl References>,
     guest: &Guest,
@@ -154,7 +154,7 @@ fn fetch_segment_entry(
 }
 
 /// Walk step 5.
-#[inline(always)]
+#[inline]
 fn fetch_page_entry(
     machine: &mut Machine<impl References>,
     segment_entry: u32,

@@ -97,15 +97,15 @@ impl Row {
         Ok(Row { title, call, storage, keys, library: Vec::new(), plain: Vec::new() })
     }
 
-    /// The library changes the record in place, so before each call 21 words are copied. The plain function
-    /// has the same burden: it takes a reference, and writes the 21 words that it hands back. What goes in
-    /// and what comes out is hidden from the optimizer alike, by reference, which costs no copy. Neither is
-    /// inlined here: the one is in another language, the other in another crate.
+    /// The library changes the record in place, and of it word 1 alone, which is restored before each call; the
+    /// other words stay where they are, as the plain function's record does, which it takes by reference. What
+    /// goes in and what comes out is hidden from the optimizer alike, by reference, which costs no copy. Neither
+    /// is inlined here: the one is in another language, the other in another crate.
     fn library_batch(&mut self, calls: u32) {
         let Request { guest, first_halfword, expanded } = self.call.request;
-        let before = record::of_guest(&guest);
+        let mut record = record::of_guest(&guest);
         let time = batch(calls, || {
-            let mut record = *black_box(&before);
+            black_box(&mut record)[1] = guest.psw_32_63;
             let result = library::attempt(
                 black_box(&mut self.storage),
                 black_box(&mut self.keys),

@@ -27,3 +27,8 @@ frames p (inr e) = rw e (omega arith)
 pub real-address : (x a p : ℕ) → Page p → x % (2 ^ 24 / p) * p + a % p < 2 ^ 24
 real-address x a p (inl e) = simp e (omega arith)
 real-address x a p (inr e) = simp e (omega arith)
+
+-- the four leftmost bits of the page index
+pub leftmost-four : (a s : ℕ) → Segment s → a / (s / 16) % 16 ≡ a % s / (s / 16)
+leftmost-four a s (inl e) = simp e (omega arith)
+leftmost-four a s (inr e) = simp e (omega arith)

@@ -7,6 +7,7 @@ ghost use Rattle.storage.specs.Answers.{machine, told, seen};
 use rules::Ending;
 use rules::Exception;
 use rules::Format;
+use rules::PageSize;
 use storage::Stepped;
 use storage::Width;
 
@@ -49,7 +50,7 @@ pub fn real_address(format: Format, entry: u32, at: u32) -> u32
     entry / (bytes / 256) % (16777216 / bytes) * bytes + at % bytes
 }
 
-pub(crate) fn page_address(
+fn page_address_by(
     storage: &[u8],
     keys: &mut [u8],
     format: Format,
@@ -77,4 +78,43 @@ pub(crate) fn page_address(
         );
     }
     Stepped::Value(real_address(format, entry, at), count)
+}
+
+// The same for either size of pages. In each of its two calls the size is a constant, which makes one walk quicker.
+pub(crate) fn page_address(
+    storage: &[u8],
+    keys: &mut [u8],
+    format: Format,
+    segment: u32,
+    at: u32,
+) -> Stepped
+    ensures { λ r. ⌜
+        told r (now (storage .entry)) (now (keys .exit))
+        ≡ seen (pageAddress (pageException at) format segment at) (machine (now (storage .entry)) (now (keys .entry)))
+        ⌝ }
+{
+    let page = format.page;
+    let size = format.segment;
+    match page {
+        PageSize::TwoK => page_address_by(
+            storage,
+            keys,
+            Format {
+                page: PageSize::TwoK,
+                segment: size,
+            },
+            segment,
+            at,
+        ),
+        PageSize::FourK => page_address_by(
+            storage,
+            keys,
+            Format {
+                page: PageSize::FourK,
+                segment: size,
+            },
+            segment,
+            at,
+        ),
+    }
 }

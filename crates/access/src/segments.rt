@@ -35,7 +35,7 @@ fn is_beyond_pages(format: Format, entry: u32, at: u32) -> bool
     ensures { λ r. ⌜ r ≡ beyondPages format entry at ⌝ }
 {
     let bytes = format.segment_bytes();
-    entry / 268435456 % 16 < at % bytes / (bytes / 16)
+    entry / 268435456 % 16 < at / (bytes / 16) % 16
 }
 
 pub fn segment_entry(storage: &[u8], keys: &mut [u8], format: Format, table: u32, at: u32) -> Walked

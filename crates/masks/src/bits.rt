@@ -27,7 +27,7 @@ pub(crate) fn goes_up(old: bool, new: bool) -> bool
 }
 
 // Any bit of a mask goes from zero to one.
-pub(crate) fn any_rises(old: u32, new: u32) -> bool
+fn any_rises(old: u32, new: u32) -> bool
     ensures { λ r. ⌜ r ≡ atAny allBits (rises old new) ⌝ }
 {
     goes_up(old / 128 % 2 == 1, new / 128 % 2 == 1)
@@ -38,6 +38,16 @@ pub(crate) fn any_rises(old: u32, new: u32) -> bool
                         | (goes_up(old / 4 % 2 == 1, new / 4 % 2 == 1)
                             | (goes_up(old / 2 % 2 == 1, new / 2 % 2 == 1)
                                 | goes_up(old % 2 == 1, new % 2 == 1)))))))
+}
+
+// The same while a virtual interruption is pending; seldom is one.
+pub(crate) fn any_rises_pending(waiting: bool, old: u32, new: u32) -> bool
+    ensures { λ r. ⌜ r ≡ (waiting && atAny allBits (rises old new)) ⌝ }
+{
+    if !waiting {
+        return false;
+    }
+    any_rises(old, new)
 }
 
 // The new mask as byte 0 of the virtual PSW, and no other byte.

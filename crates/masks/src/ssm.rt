@@ -3,7 +3,7 @@ ghost use mathlib.Core.Path.{_≡_};
 ghost use mathlib.Core.Bool.{not, _&&_, _||_};
 ghost use Rattle.rules.specs.SetSystemMask.{maskOperand, maskNeedsExpanded, maskRefused, maskTarget, setSystemMask};
 ghost use Rattle.storage.specs.Answers.{machine, told, seen, finished, finish};
-use crate::bits::any_rises;
+use crate::bits::any_rises_pending;
 use crate::bits::goes_up;
 use crate::bits::is_extended;
 use crate::bits::mask_in;
@@ -71,7 +71,7 @@ fn needs_expanded(waiting: bool, old: u32, new: u32) -> bool
 fn is_refused(waiting: bool, old: u32, new: u32) -> bool
     ensures { λ r. ⌜ r ≡ maskRefused waiting old new ⌝ }
 {
-    waiting & any_rises(old, new)
+    any_rises_pending(waiting, old, new)
 }
 
 // Steps 7 to 9: the address of the virtual PSW, where the new mask may be put.

@@ -4,7 +4,7 @@ ghost use mathlib.Core.Path.{_≡_};
 ghost use Rattle.rules.specs.StoreControl.{assistsControl};
 ghost use Rattle.rules.specs.StoreThenMask.{newMask, needsExpanded, byteOperand, storeThen};
 ghost use Rattle.storage.specs.Answers.{machine, told, seen, finished, finish};
-use crate::bits::any_rises;
+use crate::bits::any_rises_pending;
 use crate::bits::goes_up;
 use crate::bits::is_extended;
 use crate::bits::mask_in;
@@ -45,7 +45,7 @@ fn needs_expanded(change: MaskChange, ec: bool, waiting: bool, old: u32, new: u3
                             | (goes_up(old / 16 % 2 == 1, new / 16 % 2 == 1)
                                 | (goes_up(old / 8 % 2 == 1, new / 8 % 2 == 1)
                                     | goes_up(old / 4 % 2 == 1, new / 4 % 2 == 1)))))))
-                | (waiting & any_rises(old, new))
+                | any_rises_pending(waiting, old, new)
         }
     }
 }

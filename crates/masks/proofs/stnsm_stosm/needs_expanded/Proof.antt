@@ -23,7 +23,7 @@ returns-2 c =
       at-goes-up7 .before .goes-up6 .ensures,
       at-goes-up7 .goes-up7 .ensures,
       c .before .goes-up8 .ensures,
-      c .any-rises .ensures,
+      c .any-rises-pending .ensures,
     )
 
 pub needs-expanded-spec : {M : Type 1} → statement M

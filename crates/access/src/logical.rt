@@ -69,6 +69,7 @@ pub fn store_test(storage: &[u8], keys: &mut [u8], guest: Guest, at: u32) -> Ste
         ≡ seen (storeTest guest at) (machine (now (storage .entry)) (now (keys .entry)))
         ⌝ }
 {
+    // with DAT off a logical address is real
     let mut real = Stepped::Value(at, 0);
     if guest.dat_on() {
         real = translate(storage, keys, guest.cr0, guest.cr1, at);
@@ -82,6 +83,7 @@ fn fetch_test(storage: &[u8], keys: &mut [u8], guest: Guest, at: u32) -> Stepped
         ≡ seen (access fetchPasses guest at) (machine (now (storage .entry)) (now (keys .entry)))
         ⌝ }
 {
+    // with DAT off a logical address is real
     let mut real = Stepped::Value(at, 0);
     if guest.dat_on() {
         real = translate(storage, keys, guest.cr0, guest.cr1, at);

@@ -1,6 +1,6 @@
 /*
  * A guest's storage with its control blocks and tables; then each of the five instructions, and three calls that end
- * otherwise. What happened is printed in words. five_instructions.expected has what must be printed, worked out by hand.
+ * otherwise. What happened is printed in words; five_instructions.expected has what must be, worked out by hand.
  */
 #include "vma.h"
 

@@ -73,7 +73,7 @@ enum {
     VMA_COMPLETED = 0,
     VMA_INTERRUPTION = 1,        /* program interruption: vma_code is the interruption code */
     VMA_EXPANDED = 2,            /* handed to the expanded assist */
-    VMA_FIELD_MISSING = 3,       /* a byte of a control field, or SSK's key block, is not in storage: vma_code is the step */
+    VMA_FIELD_MISSING = 3,       /* a control field, or SSK's key block, is not in storage: vma_code is the step */
     VMA_WRONG_MODE = 9,          /* real PSW bit 12 or bit 15 is zero */
     VMA_WRONG_STORAGE_SIZE = 10, /* not a multiple of 2,048, or outside 2,048 to 16,777,216 */
     VMA_WRONG_KEY_COUNT = 11,    /* not one key for each 2,048 bytes */

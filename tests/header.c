@@ -22,8 +22,10 @@ static void fields(void)
     expect(vma_address(0x0111020304050607u) == 0x04050607, "the address is in bits 32-63");
     expect(vma_ending(0xFF00000000000000u) == 0xFF && vma_code(0xFF00000000000000u) == 0, "no ending in the code");
     expect(vma_code(0x00FF000000000000u) == 0xFF && vma_count(0x00FF000000000000u) == 0, "no code in the count");
-    expect(vma_count(0x0000FFFF00000000u) == 0xFFFF && vma_address(0x0000FFFF00000000u) == 0, "no count in the address");
-    expect(vma_address(0x00000000FFFFFFFFu) == 0xFFFFFFFF && vma_count(0x00000000FFFFFFFFu) == 0, "no address in the count");
+    expect(vma_count(0x0000FFFF00000000u) == 0xFFFF && vma_address(0x0000FFFF00000000u) == 0,
+           "no count in the address");
+    expect(vma_address(0x00000000FFFFFFFFu) == 0xFFFFFFFF && vma_count(0x00000000FFFFFFFFu) == 0,
+           "no address in the count");
 }
 
 static void record(void)

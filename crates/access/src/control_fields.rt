@@ -1,8 +1,6 @@
 // The control program's fields: real, with key zero, each with the step that wants it, which ending 3 carries.
 ghost use mathlib.Core.Path.{_≡_};
-ghost use Rattle.rules.specs.ControlFields.{controlWord, controlHalfword, micblokWord, micrseg};
-ghost use Rattle.rules.specs.ControlFields.{miccreg, micvpsw, addressIn, pending};
-ghost use Rattle.rules.specs.StoreControl.{assistsControl};
+ghost use Rattle.rules.specs.ControlFields.{controlWord, controlHalfword, micblokWord, addressIn, pending};
 ghost use Rattle.storage.specs.Answers.{machine, told, seen};
 use rules::Ending;
 use rules::Guest;
@@ -33,41 +31,26 @@ pub fn control_halfword(storage: &[u8], keys: &mut [u8], step: u32, at: u32) -> 
     )
 }
 
-// MICBLOK: MICRSEG at offset 0, MICCREG at 4, MICVPSW at 8.
-fn micblok_word(storage: &[u8], keys: &mut [u8], step: u32, offset: u32, guest: Guest) -> Stepped
+// The offsets of the words of MICBLOK.
+pub const MICRSEG: u32 = 0;
+
+pub const MICCREG: u32 = 4;
+
+pub const MICVPSW: u32 = 8;
+
+pub fn micblok_word(
+    storage: &[u8],
+    keys: &mut [u8],
+    step: u32,
+    offset: u32,
+    guest: Guest,
+) -> Stepped
     ensures { λ r. ⌜
         told r (now (storage .entry)) (now (keys .exit))
         ≡ seen (micblokWord step offset guest) (machine (now (storage .entry)) (now (keys .entry)))
         ⌝ }
 {
     control_word(storage, keys, step, rules::sum(guest.micblok(), offset))
-}
-
-pub fn micrseg(storage: &[u8], keys: &mut [u8], step: u32, guest: Guest) -> Stepped
-    ensures { λ r. ⌜
-        told r (now (storage .entry)) (now (keys .exit))
-        ≡ seen (micrseg step guest) (machine (now (storage .entry)) (now (keys .entry)))
-        ⌝ }
-{
-    micblok_word(storage, keys, step, 0, guest)
-}
-
-pub fn miccreg(storage: &[u8], keys: &mut [u8], step: u32, guest: Guest) -> Stepped
-    ensures { λ r. ⌜
-        told r (now (storage .entry)) (now (keys .exit))
-        ≡ seen (miccreg step guest) (machine (now (storage .entry)) (now (keys .entry)))
-        ⌝ }
-{
-    micblok_word(storage, keys, step, 4, guest)
-}
-
-pub fn micvpsw(storage: &[u8], keys: &mut [u8], step: u32, guest: Guest) -> Stepped
-    ensures { λ r. ⌜
-        told r (now (storage .entry)) (now (keys .exit))
-        ≡ seen (micvpsw step guest) (machine (now (storage .entry)) (now (keys .entry)))
-        ⌝ }
-{
-    micblok_word(storage, keys, step, 8, guest)
 }
 
 // The address that MICCREG or MICVPSW gives: bits 8-31.
@@ -82,11 +65,4 @@ pub fn is_pending(field: u32) -> bool
     ensures { λ r. ⌜ r ≡ pending field ⌝ }
 {
     field / 2147483648 % 2 == 1
-}
-
-// STCTL, STNSM and STOSM, step 1: control register 6 bits 0-3 are 10X0.
-pub fn assists_control(guest: Guest) -> bool
-    ensures { λ r. ⌜ r ≡ assistsControl guest ⌝ }
-{
-    (guest.cr6 / 1073741824 % 4 == 2) & (guest.cr6 / 268435456 % 2 != 1)
 }

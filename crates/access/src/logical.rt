@@ -17,10 +17,10 @@ use storage::Stepped;
 use storage::Width;
 
 // A store passes if the PSW key is zero or equals the access bits; a fetch passes also if the fetch bit is zero.
-fn passes(store: bool, held: u32, key: u32) -> bool
-    ensures { λ r. ⌜ r ≡ passesFor store held key ⌝ }
+fn passes(store: bool, psw_key: u32, key: u32) -> bool
+    ensures { λ r. ⌜ r ≡ passesFor store «psw_key» key ⌝ }
 {
-    let stores = (held == 0) | (held == key / 2 % 16);
+    let stores = (psw_key == 0) | (psw_key == key / 2 % 16);
     if store {
         return stores;
     }
@@ -28,10 +28,10 @@ fn passes(store: bool, held: u32, key: u32) -> bool
 }
 
 // A real address: in storage, and its key lets the access pass.
-fn key_test(keys: &mut [u8], store: bool, held: u32, real: u32) -> Stepped
+fn key_test(keys: &mut [u8], store: bool, psw_key: u32, real: u32) -> Stepped
     ensures { λ r. ⌜
         ((s : List ℕ) →
-        told r s (now (keys .exit)) ≡ seen (keyTest (passesFor store) held real) (machine s (now (keys .entry))))
+        told r s (now (keys .exit)) ≡ seen (keyTest (passesFor store) «psw_key» real) (machine s (now (keys .entry))))
         ⌝ }
 {
     let outside = Ending::Interruption(Exception::Addressing);
@@ -39,24 +39,24 @@ fn key_test(keys: &mut [u8], store: bool, held: u32, real: u32) -> Stepped
     let Stepped::Value(key, count) = consulted else {
         return consulted;
     };
-    if passes(store, held, key) {
+    if passes(store, psw_key, key) {
         return Stepped::Value(real, count);
     }
     Stepped::Stopped(Ending::Interruption(Exception::Protection), count)
 }
 
 // The same after the walk that found the real address, or the walk's ending.
-fn walked_test(keys: &mut [u8], store: bool, held: u32, walked: Stepped) -> Stepped
+fn walked_test(keys: &mut [u8], store: bool, psw_key: u32, walked: Stepped) -> Stepped
     ensures { λ r. ⌜
         ((p : Steps ℕ) (m : Machine) (s : List ℕ) →
         told walked s (now (keys .entry)) ≡ seen p m →
-        told r s (now (keys .exit)) ≡ seen (keyTested p (passesFor store) held) m)
+        told r s (now (keys .exit)) ≡ seen (keyTested p (passesFor store) «psw_key») m)
         ⌝ }
 {
     let Stepped::Value(real, count) = walked else {
         return walked;
     };
-    key_test(keys, store, held, real).after(count)
+    key_test(keys, store, psw_key, real).after(count)
 }
 
 // The access tests. They are two functions, and not one with a flag, so that translation is called from two places: the
@@ -69,12 +69,11 @@ pub fn store_test(storage: &[u8], keys: &mut [u8], guest: Guest, at: u32) -> Ste
         ≡ seen (storeTest guest at) (machine (now (storage .entry)) (now (keys .entry)))
         ⌝ }
 {
-    // with DAT off a logical address is real
-    let mut real = Stepped::Value(at, 0);
     if guest.dat_on() {
-        real = translate(storage, keys, guest.cr0, guest.cr1, at);
+        let walked = translate(storage, keys, guest.cr0, guest.cr1, at);
+        return walked_test(keys, true, guest.psw_key(), walked);
     }
-    walked_test(keys, true, guest.psw_key(), real)
+    key_test(keys, true, guest.psw_key(), at)
 }
 
 fn fetch_test(storage: &[u8], keys: &mut [u8], guest: Guest, at: u32) -> Stepped
@@ -83,12 +82,11 @@ fn fetch_test(storage: &[u8], keys: &mut [u8], guest: Guest, at: u32) -> Stepped
         ≡ seen (access fetchPasses guest at) (machine (now (storage .entry)) (now (keys .entry)))
         ⌝ }
 {
-    // with DAT off a logical address is real
-    let mut real = Stepped::Value(at, 0);
     if guest.dat_on() {
-        real = translate(storage, keys, guest.cr0, guest.cr1, at);
+        let walked = translate(storage, keys, guest.cr0, guest.cr1, at);
+        return walked_test(keys, false, guest.psw_key(), walked);
     }
-    walked_test(keys, false, guest.psw_key(), real)
+    key_test(keys, false, guest.psw_key(), at)
 }
 
 pub fn logical_fetch(

@@ -1,7 +1,7 @@
 // Page tables: document 01, "Addresses and translation", steps 5 and 6.
 ghost use Prim.Native.Nat.{_≤_};
 ghost use mathlib.Core.Path.{_≡_};
-ghost use Rattle.rules.specs.Translation.{pageTable, pageIndex, pageEntryAt, invalid};
+ghost use Rattle.rules.specs.Translation.{pageTable, pageIndex, pageEntryAt, pageEntry, invalid};
 ghost use Rattle.rules.specs.Translation.{malformed, realAddress, pageAddress, pageException};
 ghost use Rattle.storage.specs.Answers.{machine, told, seen};
 use rules::Ending;
@@ -24,10 +24,28 @@ pub fn page_index(format: Format, at: u32) -> u32
     at % format.segment_bytes() / format.page_bytes()
 }
 
-pub fn page_entry_at(format: Format, segment: u32, at: u32) -> u32
+fn page_entry_at(format: Format, segment: u32, at: u32) -> u32
     ensures { λ r. ⌜ r ≡ pageEntryAt format segment at ⌝ }
 {
     rules::sum(page_table(segment), 2 * page_index(format, at))
+}
+
+// Step 5: the entry, or this ending if it is not in storage.
+pub fn page_entry(
+    storage: &[u8],
+    keys: &mut [u8],
+    format: Format,
+    segment: u32,
+    at: u32,
+    missing: Ending,
+) -> Stepped
+    ensures { λ r. ⌜
+        told r (now (storage .entry)) (now (keys .exit))
+        ≡ seen (pageEntry missing format segment at) (machine (now (storage .entry)) (now (keys .entry)))
+        ⌝ }
+{
+    let place = page_entry_at(format, segment, at);
+    storage::fetch(storage, keys, Width::Halfword, place, missing)
 }
 
 pub fn is_invalid(format: Format, entry: u32) -> bool
@@ -62,9 +80,8 @@ fn page_address_by(
         ≡ seen (pageAddress (pageException at) format segment at) (machine (now (storage .entry)) (now (keys .entry)))
         ⌝ }
 {
-    let place = page_entry_at(format, segment, at);
     let missing = Ending::Interruption(Exception::Addressing);
-    let fetched = storage::fetch(storage, keys, Width::Halfword, place, missing);
+    let fetched = page_entry(storage, keys, format, segment, at, missing);
     let Stepped::Value(entry, count) = fetched else {
         return fetched;
     };

@@ -15,10 +15,10 @@ pub(crate) fn control_block(storage: &[u8], keys: &mut [u8], guest: Guest) -> St
         ≡ seen (controlBlock guest) (machine (now (storage .entry)) (now (keys .entry)))
         ⌝ }
 {
-    if !access::assists_control(guest) {
+    if !guest.assists_control() {
         return Stepped::Stopped(Ending::Interruption(Exception::PrivilegedOperation), 0);
     }
-    let field = access::miccreg(storage, keys, 2, guest);
+    let field = access::micblok_word(storage, keys, 2, access::MICCREG, guest);
     let Stepped::Value(creg, count) = field else {
         return field;
     };

@@ -41,10 +41,10 @@ fn any_rises(old: u32, new: u32) -> bool
 }
 
 // The same while a virtual interruption is pending; seldom is one.
-pub(crate) fn any_rises_pending(waiting: bool, old: u32, new: u32) -> bool
-    ensures { λ r. ⌜ r ≡ (waiting && atAny allBits (rises old new)) ⌝ }
+pub(crate) fn any_rises_pending(pending: bool, old: u32, new: u32) -> bool
+    ensures { λ r. ⌜ r ≡ (pending && atAny allBits (rises old new)) ⌝ }
 {
-    if !waiting {
+    if !pending {
         return false;
     }
     any_rises(old, new)

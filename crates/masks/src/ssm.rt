@@ -1,7 +1,7 @@
 // SET SYSTEM MASK (80), S format: the operand byte becomes byte 0 of the virtual PSW.
 ghost use mathlib.Core.Path.{_≡_};
 ghost use mathlib.Core.Bool.{not, _&&_, _||_};
-ghost use Rattle.rules.specs.SetSystemMask.{maskOperand, maskNeedsExpanded, maskRefused, maskTarget, setSystemMask};
+ghost use Rattle.rules.specs.SetSystemMask.{maskOperand, maskNeedsExpanded, maskTarget, setSystemMask};
 ghost use Rattle.storage.specs.Answers.{machine, told, seen, finished, finish};
 use crate::bits::any_rises_pending;
 use crate::bits::goes_up;
@@ -28,7 +28,7 @@ fn mask_operand(storage: &[u8], keys: &mut [u8], guest: Guest) -> Stepped
     if guest.cr6 / 1073741824 % 4 != 2 {
         return Stepped::Stopped(refuse, 0);
     }
-    let creg = access::miccreg(storage, keys, 2, guest);
+    let creg = access::micblok_word(storage, keys, 2, access::MICCREG, guest);
     let Stepped::Value(block, fetched) = creg else {
         return creg;
     };
@@ -55,23 +55,16 @@ fn changes(old: bool, new: bool) -> bool
     goes_up(old, new) | goes_up(new, old)
 }
 
-// Step 9 in the EC mode.
-fn needs_expanded(waiting: bool, old: u32, new: u32) -> bool
-    ensures { λ r. ⌜ r ≡ maskNeedsExpanded waiting old new ⌝ }
+// Step 9 in the EC mode. (In the BC mode it is `any_rises_pending`.)
+fn needs_expanded(pending: bool, old: u32, new: u32) -> bool
+    ensures { λ r. ⌜ r ≡ maskNeedsExpanded pending old new ⌝ }
 {
     changes(old / 64 % 2 == 1, new / 64 % 2 == 1)
         | changes(old / 4 % 2 == 1, new / 4 % 2 == 1)
         | ((new / 128 % 2 == 1)
             | ((new / 32 % 2 == 1) | ((new / 16 % 2 == 1) | (new / 8 % 2 == 1))))
-        | (waiting
+        | (pending
             & (goes_up(old / 2 % 2 == 1, new / 2 % 2 == 1) | goes_up(old % 2 == 1, new % 2 == 1)))
-}
-
-// Step 9 in the BC mode.
-fn is_refused(waiting: bool, old: u32, new: u32) -> bool
-    ensures { λ r. ⌜ r ≡ maskRefused waiting old new ⌝ }
-{
-    any_rises_pending(waiting, old, new)
 }
 
 // Steps 7 to 9: the address of the virtual PSW, where the new mask may be put.
@@ -82,7 +75,7 @@ fn mask_target(storage: &[u8], keys: &mut [u8], call: Call, new: u32) -> Stepped
         ⌝ }
 {
     let guest = call.guest;
-    let field = access::micvpsw(storage, keys, 7, guest);
+    let field = access::micblok_word(storage, keys, 7, access::MICVPSW, guest);
     let Stepped::Value(vpsw, fetched) = field else {
         return field;
     };
@@ -92,12 +85,12 @@ fn mask_target(storage: &[u8], keys: &mut [u8], call: Call, new: u32) -> Stepped
         return halfword;
     };
     let ec = is_extended(first);
-    let waiting = access::is_pending(vpsw);
+    let pending = access::is_pending(vpsw);
     let old = mask_in(first);
-    if ec & needs_expanded(waiting, old, new) {
+    if ec & needs_expanded(pending, old, new) {
         return Stepped::Stopped(call.expanded(), count);
     }
-    if !ec & is_refused(waiting, old, new) {
+    if !ec & any_rises_pending(pending, old, new) {
         return Stepped::Stopped(Ending::Interruption(Exception::PrivilegedOperation), count);
     }
     Stepped::Value(at, count)

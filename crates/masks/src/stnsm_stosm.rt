@@ -1,7 +1,6 @@
 // STORE THEN AND SYSTEM MASK (AC) and STORE THEN OR SYSTEM MASK (AD), SI format: byte 0 of the virtual PSW is stored at
 // the operand, and is then ANDed, or ORed, with the immediate.
 ghost use mathlib.Core.Path.{_≡_};
-ghost use Rattle.rules.specs.StoreControl.{assistsControl};
 ghost use Rattle.rules.specs.StoreThenMask.{newMask, needsExpanded, byteOperand, storeThen};
 ghost use Rattle.storage.specs.Answers.{machine, told, seen, finished, finish};
 use crate::bits::any_rises_pending;
@@ -28,8 +27,8 @@ fn new_mask(change: MaskChange, old: u32, immediate: u32) -> u32
 }
 
 // And when the expanded assist is needed for it.
-fn needs_expanded(change: MaskChange, ec: bool, waiting: bool, old: u32, new: u32) -> bool
-    ensures { λ r. ⌜ r ≡ needsExpanded change ec waiting old new ⌝ }
+fn needs_expanded(change: MaskChange, ec: bool, pending: bool, old: u32, new: u32) -> bool
+    ensures { λ r. ⌜ r ≡ needsExpanded change ec pending old new ⌝ }
 {
     match change {
         MaskChange::And => {
@@ -45,7 +44,7 @@ fn needs_expanded(change: MaskChange, ec: bool, waiting: bool, old: u32, new: u3
                             | (goes_up(old / 16 % 2 == 1, new / 16 % 2 == 1)
                                 | (goes_up(old / 8 % 2 == 1, new / 8 % 2 == 1)
                                     | goes_up(old / 4 % 2 == 1, new / 4 % 2 == 1)))))))
-                | any_rises_pending(waiting, old, new)
+                | any_rises_pending(pending, old, new)
         }
     }
 }
@@ -72,11 +71,11 @@ pub fn store_then(storage: &mut [u8], keys: &mut [u8], change: MaskChange, call:
         ⌝ }
 {
     let guest = call.guest;
-    if !access::assists_control(guest) {
+    if !guest.assists_control() {
         let refuse = Ending::Interruption(Exception::PrivilegedOperation);
         return Stepped::Stopped(refuse, 0).ending(guest);
     }
-    let field = access::micvpsw(storage, keys, 2, guest);
+    let field = access::micblok_word(storage, keys, 2, access::MICVPSW, guest);
     let Stepped::Value(vpsw, fetched) = field else {
         return field.ending(guest);
     };

@@ -17,8 +17,8 @@ abbrev pub following : {A B : Type 0} → Outcome A → ℕ → Machine → (A �
 following (ended e) n m g = record { outcome = ended e; count = n; left = m }
 following (gave a) n m g = let x = g a m in record { outcome = x .outcome; count = n + x .count; left = x .left }
 
-abbrev seen : {A : Type 0} → Run A → Machine → View A
-seen r m = record { outcome = r .outcome; count = length (r .references); left = m }
+abbrev viewed : {A : Type 0} → Run A → Machine → View A
+viewed r m = record { outcome = r .outcome; count = length (r .references); left = m }
 
 abbrev one-more : {A : Type 0} → View A → View A
 one-more x = record { outcome = x .outcome; count = suc (x .count); left = x .left }
@@ -31,8 +31,8 @@ more (gave a) n m g =
 
 item-view : {A B : Type 0} (b : Bool) (r : Reference) (m : Machine) (e : Ending) (v : ℕ) (k : ℕ → Run A)
     (l : ℕ → Run B) (g : A → Machine → View B)
-    → seen (l v) m ≡ following (k v .outcome) (length (k v .references)) m g
-    → seen (item b r e v l) m ≡ following (item b r e v k .outcome) (length (item b r e v k .references)) m g
+    → viewed (l v) m ≡ following (k v .outcome) (length (k v .references)) m g
+    → viewed (item b r e v l) m ≡ following (item b r e v k .outcome) (length (item b r e v k .references)) m g
 item-view false r m e v k l g h = refl
 item-view true r m e v k l g h = ap one-more h ∙ more (k v .outcome) (length (k v .references)) m g
 

@@ -15,7 +15,7 @@ use Rattle.rules.specs.SetStorageKey.{
   segmentTable,
   setStorageKey,
 }
-use Rattle.rules.specs.Attempt.{instruction, program}
+use Rattle.rules.specs.Attempt.{admitted, instruction}
 
 -- what every instruction reads by
 unfoldable pub walking : Unit {0}
@@ -40,5 +40,5 @@ unfolding fetching storeSwapWord setBlockKey swapWordAt pageOf setKeyIn segmentT
 keying = tt
 
 unfoldable pub computing : Unit {0}
-unfolding masking storing keying instruction program
+unfolding masking storing keying admitted instruction
 computing = tt

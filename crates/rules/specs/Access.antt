@@ -30,7 +30,7 @@ access passes g a = do
   stopIf (not (passes (pswKey g) k)) (Interruption Protection)
   done real
 
--- a store test: the real address of an operand that is stored later
+-- document 01's "store test": the real address of an operand that is stored later
 abbrev pub storeTest : Guest → (address : ℕ) → Steps ℕ
 storeTest g a = access storePasses g a
 

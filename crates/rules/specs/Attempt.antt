@@ -48,6 +48,16 @@ isAssisted op = eqb op 0x80 || eqb op 0xb6 || eqb op 0xac || eqb op 0xad || eqb 
 abbrev pub wrongMode : Guest → Bool
 wrongMode g = not (extendedControl g) || not (problemState g)
 
+-- what comes after them, in a storage of so many bytes with so many keys
+unfoldable pub admitted : {A : Type 0} → (bytes keys : ℕ) → (Call → Steps A) → Call → Steps A
+admitted bytes keys next c = do
+  stopIf (wrongStorage bytes) WrongStorageSize
+  stopIf (wrongKeys bytes keys) WrongKeyCount
+  stopIf (oddAddress (c .guest)) OddInstructionAddress
+  stopIf (not (isAssisted (operation c))) NotAssisted
+  stopIf (wrongMode (c .guest)) WrongMode
+  next c
+
 -- ---- the instruction, by its operation code: 08 is the one of the five that is left
 
 unfoldable pub instruction : Call → Steps Completion
@@ -58,20 +68,14 @@ instruction c =
     (branch (eqb (operation c) 0xad) (storeThenOr c)
     (setStorageKey c))))
 
--- the whole, in a storage of so many bytes with so many keys
-unfoldable pub program : (bytes keys : ℕ) → Call → Steps Completion
-program bytes keys c = do
-  stopIf (wrongStorage bytes) WrongStorageSize
-  stopIf (wrongKeys bytes keys) WrongKeyCount
-  stopIf (oddAddress (c .guest)) OddInstructionAddress
-  stopIf (not (isAssisted (operation c))) NotAssisted
-  stopIf (wrongMode (c .guest)) WrongMode
-  instruction c
+-- the whole
+abbrev pub program : (bytes keys : ℕ) → Call → Steps Completion
+program bytes keys = admitted bytes keys instruction
 
 -- ---- the answer
 
--- the answer (the ending with all that it carries, the count of references, the record handed back), the list of
--- references, and the machine afterwards
+-- the answer, document 01's word for the ending with all that it carries, the count of references and the record handed
+-- back; the list of references; and the machine afterwards
 pub record Result : Type 0 where
   pub answer : Answer
   pub references : List Reference

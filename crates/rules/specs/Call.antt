@@ -1,4 +1,5 @@
--- A call: its fields, and what its completion leaves to do.
+-- A call, document 01's word for one attempt with all that is fixed beforehand: its fields, and what its completion
+-- leaves to do.
 use Prim.Native.Nat.{ℕ}
 use mathlib.Core.Bool.{cond}
 use mathlib.Core.List.{List}

@@ -1,4 +1,5 @@
--- A list of calls, each on what the one before it left. Document 01, "What a reader may hold us to".
+-- A list of calls run alone, as document 01 says it: in order, each on what the one before it left.
+-- "What a reader may hold us to".
 use mathlib.Core.List.{List, [], _∷_, _++_}
 use Rattle.rules.specs.Machine.{Machine}
 use Rattle.rules.specs.References.{Reference}

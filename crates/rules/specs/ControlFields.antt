@@ -1,5 +1,6 @@
--- The control program's fields: real, with key zero. Document 01, "Addresses and translation".
--- Each is fetched with the number of the step that wants it, which ending 3 carries.
+-- Control fields, document 01's word for what the control program keeps in storage: real, with key zero.
+-- Document 01, "Addresses and translation". Each is fetched with the number of the step that wants it; if a byte of it
+-- is not in storage, the attempt ends with 3, which carries that step.
 use Prim.Native.Nat.{ℕ}
 use mathlib.Core.Bool.{Bool}
 use Rattle.rules.specs.Endings.{FieldMissing}

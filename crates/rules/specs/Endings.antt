@@ -1,4 +1,5 @@
--- The numbered endings: document 01's number, code or step, and logical address for each case of the enum.
+-- The numbered endings. "Ending" is document 01's word for how an attempt ends: here its number, code or step, and
+-- logical address, for each case of the enum.
 use Prim.Native.Nat.{ℕ}
 pub use Rattle.rules.specs.declared.endings.Exception.{Exception}
 pub use Rattle.rules.specs.declared.endings.Exception.the-variants.{
@@ -57,6 +58,6 @@ numbers WrongKeyCount = record { number = 11; code = 0; address = 0 }
 numbers OddInstructionAddress = record { number = 12; code = 0; address = 0 }
 numbers NotAssisted = record { number = 13; code = 0; address = 0 }
 
--- document 01's "refuse"
+-- document 01's "refuse": interruption 2
 abbrev pub refuse : Ending
 refuse = Interruption PrivilegedOperation

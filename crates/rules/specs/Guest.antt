@@ -1,7 +1,9 @@
--- A guest's record: its fields, effective addresses, and the move of the instruction address.
+-- A guest's record, document 01's word for its real PSW and registers: its fields, effective addresses, and the move of
+-- the instruction address.
 -- Document 01, "What is modelled" and "Addresses and translation".
 use Prim.Native.Nat.{ℕ, zero, suc, _+_, _-_, _*_}
-use mathlib.Core.Bool.{Bool}
+use mathlib.Core.Bool.{Bool, not, _&&_}
+use lib.Dec.{eqb}
 use lib.ListN.{getD}
 pub use Rattle.rules.specs.declared.guest.Guest.{Guest}
 use Rattle.rules.specs.Bits.{bits, bit, word, halfword}
@@ -48,6 +50,12 @@ base g (suc r) = word 8 31 (register g (suc r))
 abbrev pub effective : Guest → (second : ℕ) → ℕ
 effective g second = halfword 4 15 second ⊕ base g (halfword 0 3 second)
 
--- the address of MICBLOK: control register 6 bits 8-28, then three zeros
+-- ---- control register 6
+
+-- bits 0-3 are 10X0: step 1 of STCTL, STNSM and STOSM
+abbrev pub assistsControl : Guest → Bool
+assistsControl g = eqb (word 0 1 (g .cr6)) 0b10 && not (bit 32 3 (g .cr6))
+
+-- the address of MICBLOK: bits 8-28, then three zeros
 abbrev pub micblok : Guest → ℕ
 micblok g = word 8 28 (g .cr6) * 8

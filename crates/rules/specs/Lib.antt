@@ -1,20 +1,28 @@
--- Document 01 as definitions, in its order; then, in Theorems, what is proved of them.
+-- Document 01 as definitions, by its sections; then, in Theorems, what is proved of them.
+
+-- "What is modelled"
 pub mod Bits
 pub mod Machine
-pub mod References
 pub mod Guest
+-- "The numbered endings"
 pub mod Endings
+-- "References, in order", and programs that make them
+pub mod References
 pub mod Steps
 pub mod Run
+-- "Addresses and translation"
 pub mod Translation
 pub mod Access
 pub mod ControlFields
-pub mod Masks
+-- "The five instructions"
 pub mod Call
+pub mod Masks
 pub mod SetSystemMask
 pub mod StoreControl
 pub mod StoreThenMask
 pub mod SetStorageKey
+-- the order of the tests, and the answer
 pub mod Attempt
+-- "What a reader may hold us to"
 pub mod Calls
 pub mod Theorems

@@ -1,4 +1,5 @@
 -- Storage and keys, as the caller lends them; addresses; what it means that an item is in storage; stores.
+-- A block, document 01's "key block", is 2,048 bytes of storage, which share a key.
 -- Document 01, "What is modelled" and "Addresses and translation".
 use Prim.Native.Nat.{ℕ, zero, suc, _+_, _*_, _/_, _%_, _^_}
 use mathlib.Core.Bool.{Bool, true, _&&_}
@@ -6,7 +7,7 @@ use mathlib.Core.List.{List, [], _∷_}
 use lib.ListN.{length, getD, set}
 use lib.Dec.{ltb}
 
--- One byte an element, and one key byte for each 2,048 bytes of storage. A key: bits 0-3 access, 4 fetch protection,
+-- One byte an element, and one key byte for each block. A key: bits 0-3 access, 4 fetch protection,
 -- 5 reference, 6 change; bit 7 is ignored and left as found.
 pub record Machine : Type 0 where
   pub storage : List ℕ

@@ -1,5 +1,5 @@
--- The list of references: its entries, and the bytes and keys that each one names.
--- Document 01, "References, in order".
+-- The list of references, document 01's own: its entries, and the bytes and keys that each one names, which it is said
+-- to consult. Document 01, "References, in order" and "What a reader may hold us to".
 use Prim.Native.Nat.{ℕ, _/_}
 use mathlib.Core.List.{List, [], _∷_}
 pub use Rattle.rules.specs.declared.keys.KeyUse.{KeyUse}

@@ -21,7 +21,7 @@ use Rattle.rules.specs.Translation.{
   segmentEntry,
   pageTable,
   pageIndex,
-  pageEntryAt,
+  pageEntry,
   invalid,
   malformed,
   realAddress,
@@ -31,7 +31,7 @@ use Rattle.rules.specs.Machine.{_⊕_, Write, store, setKey}
 use Rattle.rules.specs.References.{Whole}
 use Rattle.rules.specs.Guest.{register}
 use Rattle.rules.specs.Steps.{Steps, done, branch, _>>=_, _>>_, consultKey, stopIf}
-use Rattle.rules.specs.ControlFields.{controlWord, controlHalfword, micrseg, addressIn}
+use Rattle.rules.specs.ControlFields.{controlWord, micrseg, addressIn}
 use Rattle.rules.specs.Call.{Call, r1, r2, Completion, complete}
 
 -- the word in R1, whose bits 24-30 are the key; the word in R2, whose bits 8-31 are the address
@@ -85,7 +85,7 @@ swapWordAt f segment a = do
 -- steps 9 and 10: the page entry
 unfoldable pub pageOf : Format → (segment address : ℕ) → Steps ℕ
 pageOf f segment a = do
-  page ← controlHalfword 9 (pageEntryAt f segment a)  -- 9
+  page ← pageEntry (FieldMissing 9) f segment a  -- 9
   stopIf (not (invalid f page) && malformed f page) refuse  -- 10
   done page
 

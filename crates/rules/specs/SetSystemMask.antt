@@ -26,15 +26,15 @@ maskOperand g = do
 
 -- step 9, in the EC mode: bit 1 or 5 would change, or new bits 0, 2, 3 or 4 are not all zero, or one is pending and
 -- bit 6 or 7 goes from zero to one
-abbrev pub maskNeedsExpanded : (waiting : Bool) (old new : ℕ) → Bool
-maskNeedsExpanded waiting old new =
+abbrev pub maskNeedsExpanded : (pending : Bool) (old new : ℕ) → Bool
+maskNeedsExpanded pending old new =
     atAny (1 ∷ 5 ∷ []) (changes old new)
     || atAny (0 ∷ 2 ∷ 3 ∷ 4 ∷ []) (λ i. bit 8 i new)
-    || (waiting && atAny (6 ∷ 7 ∷ []) (rises old new))
+    || (pending && atAny (6 ∷ 7 ∷ []) (rises old new))
 
 -- and in the BC mode: one is pending and any bit goes from zero to one
-abbrev pub maskRefused : (waiting : Bool) (old new : ℕ) → Bool
-maskRefused waiting old new = waiting && atAny allBits (rises old new)
+abbrev pub maskRefused : (pending : Bool) (old new : ℕ) → Bool
+maskRefused pending old new = pending && atAny allBits (rises old new)
 
 -- steps 7 to 9: the address of the virtual PSW, where the new mask may be put
 unfoldable pub maskTarget : Call → (new : ℕ) → Steps ℕ

@@ -1,5 +1,6 @@
 -- A reading program: what an instruction reads, in order, what a missing item gives, and how it goes on.
--- Every instruction is such a program; what it writes when it completes is its result.
+-- Every instruction is such a program; what it writes when it completes is its result. The term is ours: in all of
+-- document 01 every read comes before every write.
 use Prim.Native.Nat.{ℕ}
 use mathlib.Core.Bool.{Bool}
 use Rattle.rules.specs.Endings.{Ending}

@@ -1,21 +1,16 @@
 -- STORE CONTROL (B6), RS format. Document 01, "STCTL"; GA22-7074, pages 20 and 21.
 -- The virtual control registers from R1 up to R3 are stored at the operand.
 use Prim.Native.Nat.{ℕ, zero, suc, _+_, _-_, _*_, _%_}
-use mathlib.Core.Bool.{Bool, not, _&&_}
+use mathlib.Core.Bool.{not}
 use mathlib.Core.List.{List, [], _∷_, _++_}
 use lib.Dec.{eqb}
-use Rattle.rules.specs.Guest.{Guest, effective}
-use Rattle.rules.specs.Bits.{bit, word}
+use Rattle.rules.specs.Guest.{Guest, assistsControl, effective}
 use Rattle.rules.specs.Machine.{_⊕_, Write, store}
 use Rattle.rules.specs.Endings.{refuse}
 use Rattle.rules.specs.Steps.{Steps, done, _>>=_, _>>_, stopIf}
 use Rattle.rules.specs.Access.{storeTest, secondHalfword}
 use Rattle.rules.specs.ControlFields.{controlWord, miccreg, addressIn}
 use Rattle.rules.specs.Call.{Call, r1, r3, Completion, complete}
-
--- step 1, of STNSM and STOSM too: control register 6 bits 0-3 are 10X0
-abbrev pub assistsControl : Guest → Bool
-assistsControl g = eqb (word 0 1 (g .cr6)) 0b10 && not (bit 32 3 (g .cr6))
 
 -- how many registers R1 and R3 name
 abbrev pub registerCount : (r1 r3 : ℕ) → ℕ

@@ -6,7 +6,7 @@ use mathlib.Core.Bool.{Bool, not, _&&_, _||_}
 use mathlib.Core.List.{[], _∷_}
 use lib.Bits.{bitAnd, bitOr}
 use Rattle.rules.specs.Machine.{store}
-use Rattle.rules.specs.Guest.{Guest, effective}
+use Rattle.rules.specs.Guest.{Guest, assistsControl, effective}
 use Rattle.rules.specs.Endings.{refuse}
 use Rattle.rules.specs.Steps.{Steps, _>>=_, _>>_, stopIf, endingAs}
 use Rattle.rules.specs.Access.{storeTest, secondHalfword}
@@ -14,7 +14,6 @@ use Rattle.rules.specs.ControlFields.{controlHalfword, micvpsw, addressI
 pub use Rattle.rules.specs.declared.mask_change.MaskChange.{MaskChange}
 pub use Rattle.rules.specs.declared.mask_change.MaskChange.the-variants.{And, Or}
 use Rattle.rules.specs.Masks.{maskIn, extendedIn, atAny, allBits, rises, falls}
-use Rattle.rules.specs.StoreControl.{assistsControl}
 use Rattle.rules.specs.Call.{Call, expanded, immediate, Completion, complete}
 
 -- step 4: what the new mask is
@@ -23,12 +22,12 @@ newMask And = bitAnd
 newMask Or = bitOr
 
 -- and when the expanded assist is needed for it
-abbrev pub needsExpanded : MaskChange → (ec waiting : Bool) (old new : ℕ) → Bool
+abbrev pub needsExpanded : MaskChange → (ec pending : Bool) (old new : ℕ) → Bool
 -- EC, and bit 1 or 5 goes to zero
-needsExpanded And ec waiting old new = ec && atAny (1 ∷ 5 ∷ []) (falls old new)
+needsExpanded And ec pending old new = ec && atAny (1 ∷ 5 ∷ []) (falls old new)
 -- EC, and any of bits 0-5 goes to one; or one is pending, and any bit goes to one
-needsExpanded Or ec waiting old new =
-    (ec && atAny (0 ∷ 1 ∷ 2 ∷ 3 ∷ 4 ∷ 5 ∷ []) (rises old new)) || (waiting && atAny allBits (rises old new))
+needsExpanded Or ec pending old new =
+    (ec && atAny (0 ∷ 1 ∷ 2 ∷ 3 ∷ 4 ∷ 5 ∷ []) (rises old new)) || (pending && atAny allBits (rises old new))
 
 -- steps 5 and 6: the real address of the operand, tested for a store
 unfoldable pub byteOperand : Guest → Steps ℕ

@@ -97,6 +97,10 @@ pageIndex f a = a % segmentBytes f / pageBytes f
 abbrev pub pageEntryAt : Format → (segment address : ℕ) → ℕ
 pageEntryAt f segment a = pageTable segment ⊕ 2 * pageIndex f a
 
+-- the entry, or this ending if it is not in storage
+abbrev pub pageEntry : (missing : Ending) → Format → (segment address : ℕ) → Steps ℕ
+pageEntry missing f segment a = fetchBytes (pageEntryAt f segment a) 2 missing
+
 -- A page entry: the frame (bits 0-11 for 4K, 0-12 for 2K), the invalid bit, then bits up to 14 that must be zero.
 abbrev pub invalid : Format → (entry : ℕ) → Bool
 invalid f entry = eqb (entry / (pageBytes f / 512) % 2) 1
@@ -109,7 +113,7 @@ realAddress f entry a = entry / (pageBytes f / 256) % (2 ^ 24 / pageBytes f) * p
 
 unfoldable pub pageAddress : (PageFault → Ending) → Format → (segment address : ℕ) → Steps ℕ
 pageAddress on f segment a = do
-  entry ← fetchBytes (pageEntryAt f segment a) 2 (on PageEntryMissing)  -- 5
+  entry ← pageEntry (on PageEntryMissing) f segment a  -- 5
   stopIf (invalid f entry) (on PageInvalid)
   stopIf (malformed f entry) (on PageFormat)
   done (realAddress f entry a)  -- 6

@@ -1,7 +1,7 @@
 // A guest's record: the real PSW, the general registers, and real control registers 0, 1 and 6.
 ghost use mathlib.Core.Path.{_≡_};
 ghost use Rattle.rules.specs.Guest.{instructionAddress, datOn, pswKey, extendedControl, problemState};
-ghost use Rattle.rules.specs.Guest.{advance, register, base, effective, micblok};
+ghost use Rattle.rules.specs.Guest.{advance, register, base, effective, assistsControl, micblok};
 
 pub struct Guest {
     pub psw: u64,
@@ -80,7 +80,14 @@ impl Guest {
         crate::sum(second % 4096, self.base(second / 4096 % 16))
     }
 
-    // The address of MICBLOK.
+    // Control register 6 bits 0-3 are 10X0: step 1 of STCTL, STNSM and STOSM.
+    pub fn assists_control(self) -> bool
+        ensures { λ r. ⌜ r ≡ assistsControl self ⌝ }
+    {
+        (self.cr6 / 1073741824 % 4 == 2) & (self.cr6 / 268435456 % 2 != 1)
+    }
+
+    // The address of MICBLOK: control register 6 bits 8-28, then three zeros.
     pub fn micblok(self) -> u32
         ensures { λ r. ⌜ r ≡ micblok self ⌝ }
     {

@@ -8,7 +8,7 @@ pub enum KeyUse {
 }
 
 impl KeyUse {
-    pub fn seen(self, key: u32) -> u32
+    pub fn seen_as(self, key: u32) -> u32
         ensures { λ r. ⌜ r ≡ seenAs self key ⌝ }
     {
         match self {

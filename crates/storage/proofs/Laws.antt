@@ -49,7 +49,7 @@ pub record Runs {A : Type 0} (m : Machine) (t : Steps A) (n : ℕ) (m′ : Machi
 abbrev counted : {A : Type 0} → View A → ℕ → View A
 counted x n = record { outcome = x .outcome; count = n; left = x .left }
 
-pub more-zero : {A : Type 0} (p : Steps A) (m : Machine) → seen p m ≡ more 0 (seen p m)
+more-zero : {A : Type 0} (p : Steps A) (m : Machine) → seen p m ≡ more 0 (seen p m)
 unfolding seen
 more-zero p m =
     let c = view p m .count in
@@ -57,6 +57,16 @@ more-zero p m =
 
 pub begin : {A : Type 0} → (m : Machine) (t : Steps A) → Runs m t 0 m t
 begin m t = record { so = more-zero t m; small = omega arith }
+
+-- reading changes no key's place: there are as many keys as before
+seen-keys : {A : Type 0} (p : Steps A) (m : Machine) → length (seen p m .left .keys) ≡ length (m .keys)
+unfolding seen
+seen-keys p m = refl
+
+pub runs-keys : {A : Type 0} {m m′ : Machine} {t u : Steps A} {n : ℕ} → Runs m t n m′ u
+    → length (m′ .keys) ≡ length (m .keys)
+runs-keys {m = m} {m′ = m′} {t = t} {u = u} h =
+    sym (seen-keys u m′) ∙ sym (ap (λ x. length (x .left .keys)) (h .so)) ∙ seen-keys t m
 
 -- ---- what a call's answer says
 
@@ -165,30 +175,11 @@ module _ {A : Type 0} {m m′ : Machine} {t : Steps A} {n : ℕ} where
       let small = h .small in
       sym (h .so ∙ ap (λ c. went a c m′) (let z : (n + 0 % 2 ^ 32) % 2 ^ 32 ≡ n = omega arith in z))
 
--- ---- the same of a step's answer
+-- ---- the last step: its answer, told after the references before it, is the stage's
 
-module _ {A : Type 0} {m m′ : Machine} {t : Steps A} {n : ℕ} (r : Stepped) (s ks : List ℕ) where
-  pub step : (p : Steps ℕ) (k : ℕ → Steps A) {v c : ℕ} → Runs m t n m′ (p >>= k)
-      → told r s ks ≡ more n (seen p m′) → r ≡ Value v c → Runs m t c (machine s ks) (k v)
-  step p k h f e = goes p k h (ap (λ x. told x s ks) (sym e) ∙ f)
-
-  pub halts : (p : Steps ℕ) (k : ℕ → Steps A) {e : Ending} {c : ℕ} → Runs m t n m′ (p >>= k)
-      → told r s ks ≡ more n (seen p m′) → r ≡ Stopped e c → over e c (machine s ks) ≡ seen t m
-  halts p k h f e = ends p k h (ap (λ x. told x s ks) (sym e) ∙ f)
-
-module _ {m m′ : Machine} {t : Steps ℕ} {n : ℕ} (r : Stepped) (s ks : List ℕ) where
-  -- the answer handed on, where the step ended
-  pub hands : (p : Steps ℕ) (k : ℕ → Steps ℕ) {e : Ending} {c : ℕ} → Runs m t n m′ (p >>= k)
-      → told r s ks ≡ more n (seen p m′) → r ≡ Stopped e c → told r s ks ≡ seen t m
-  hands p k h f e = ap (λ x. told x s ks) e ∙ halts r s ks p k h f e
-
-  -- and where it was the last
-  pub last : (p : Steps ℕ) → Runs m t n m′ p → told r s ks ≡ more n (seen p m′) → told r s ks ≡ seen t m
-  last p h f = f ∙ sym (h .so)
-
--- what is left of t on m, wherever it has come to
-abbrev pub Left : {A : Type 0} → Machine → Steps A → Type 0
-Left {A} m t = (n : ℕ) × (m′ : Machine) × (u : Steps A) × Runs m t n m′ u
+pub last-after : {m m′ : Machine} {t : Steps ℕ} {n : ℕ} (p : Steps ℕ) → Runs m t n m′ p → (r r′ : Stepped)
+    (s ks : List ℕ) → r′ ≡ later n r → told r s ks ≡ seen p m′ → told r′ s ks ≡ seen t m
+last-after {m′ = m′} {n = n} p h r r′ s ks e f = waited r r′ n s ks p m′ e f ∙ sym (h .so)
 
 -- ---- an instruction's answer
 

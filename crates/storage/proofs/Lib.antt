@@ -2,4 +2,5 @@
 pub mod Joined
 pub mod Fetched
 pub mod Laws
+pub mod Stages
 pub mod Words

@@ -17,7 +17,7 @@ pub fn consult_key(keys: &mut [u8], for_use: KeyUse, block: u32, missing: Ending
 {
     let i = block as usize;
     if i < keys.len() {
-        return Stepped::Value(for_use.seen(keys[i] as u32), 1);
+        return Stepped::Value(for_use.seen_as(keys[i] as u32), 1);
     }
     Stepped::Stopped(missing, 0)
 }

@@ -2,6 +2,7 @@
 ghost use Prim.Native.Nat.{_<_};
 ghost use mathlib.Core.Path.{_≡_};
 ghost use lib.Bits.{bitOr};
+ghost use Rattle.rules.specs.Bits.{bit};
 ghost use Rattle.rules.specs.SetStorageKey.{keyWord, addressWord, newKey, swapWith};
 use rules::Call;
 
@@ -38,7 +39,7 @@ fn marked(byte: u32, marks: u32) -> u32
 
 // Step 12: the swap word. Reference and change bits go into bits 4 and 5, or for the upper 2K block of the page into 6
 // and 7; R1 bits 24-30 and a zero into byte 2, or 3.
-pub(crate) fn swap_with(upper: bool, word: u32, key: u32, marks: u32) -> u32
+fn swap_with(upper: bool, word: u32, key: u32, marks: u32) -> u32
     requires { ⌜ marks < 4 ⌝ }
     ensures { λ r. ⌜ r ≡ swapWith upper word key marks ⌝ }
 {
@@ -49,4 +50,17 @@ pub(crate) fn swap_with(upper: bool, word: u32, key: u32, marks: u32) -> u32
         return marked(left, marks) * 16777216 + second + word / 256 % 256 * 256 + changed;
     }
     marked(left, marks * 4) * 16777216 + second + changed * 256 + word % 256
+}
+
+// The same for a call: bit 20 of the address tells the upper block.
+pub(crate) fn swap_word(call: Call, word: u32, marks: u32) -> u32
+    requires { ⌜ marks < 4 ⌝ }
+    ensures { λ r. ⌜ r ≡ swapWith (bit 32 20 (addressWord call)) word (keyWord call) marks ⌝ }
+{
+    swap_with(
+        address_word(call) / 2048 % 2 == 1,
+        word,
+        key_word(call),
+        marks,
+    )
 }

@@ -1,11 +1,11 @@
 // The whole instruction.
 ghost use mathlib.Core.Path.{_≡_};
-ghost use Rattle.rules.specs.SetStorageKey.{setKeyIn, setStorageKey};
+ghost use Rattle.rules.specs.SetStorageKey.{setBlockKey, setKeyIn, setStorageKey};
 ghost use Rattle.storage.specs.Answers.{machine, seen, finished, finish};
 use crate::keys::address_word;
 use crate::keys::key_word;
 use crate::keys::new_key;
-use crate::keys::swap_with;
+use crate::keys::swap_word;
 use crate::tables::format_in;
 use crate::tables::page_of;
 use crate::tables::refused;
@@ -17,6 +17,30 @@ use rules::Ending;
 use rules::Format;
 use rules::KeyUse;
 use storage::Stepped;
+
+// Step 11 on a valid page, and step 12: the key of its block, and the swap word, which stands at a place.
+fn set_block_key(
+    storage: &mut [u8],
+    keys: &mut [u8],
+    call: Call,
+    block: u32,
+    place: u32,
+    word: u32,
+) -> Answer
+    ensures { λ r. ⌜
+        finished r (now (storage .exit)) (now (keys .exit))
+        ≡ finish (call .guest)
+        (seen (setBlockKey call block place word) (machine (now (storage .entry)) (now (keys .entry))))
+        ⌝ }
+{
+    let consulted = storage::consult_key(keys, KeyUse::Whole, block, Ending::FieldMissing(11));
+    let Stepped::Value(old, known) = consulted else {
+        return consulted.ending(call.guest);
+    };
+    storage::set_key(keys, block, new_key(key_word(call), old));
+    storage::store_word(storage, keys, place, swap_word(call, word, old / 2 % 4));
+    storage::completed(call, 2, known, 2)
+}
 
 // Steps 7 to 12, for a format, a segment entry and an address.
 fn set_key_in(
@@ -47,30 +71,15 @@ fn set_key_in(
     let Stepped::Value(page, count) = entry else {
         return entry.ending(guest);
     };
-    let key = key_word(call);
-    let upper = address_word(call) / 2048 % 2 == 1;
     if access::is_invalid(format, page) {
-        storage::store_word(storage, keys, place, swap_with(upper, word, key, 0));
+        storage::store_word(storage, keys, place, swap_word(call, word, 0));
         return storage::completed(call, 2, count, 1);
     }
     let block = access::real_address(format, page, at) / 2048;
-    let consulted = storage::consult_key(
-        keys,
-        KeyUse::Whole,
-        block,
-        Ending::FieldMissing(11),
-    ).after(count);
-    let Stepped::Value(old, known) = consulted else {
-        return consulted.ending(guest);
-    };
-    storage::set_key(keys, block, new_key(key, old));
-    storage::store_word(
-        storage,
-        keys,
-        place,
-        swap_with(upper, word, key, old / 2 % 4),
-    );
-    storage::completed(call, 2, known, 2)
+    storage::answer_after(
+        set_block_key(storage, keys, call, block, place, word),
+        count,
+    )
 }
 
 pub fn set_storage_key(storage: &mut [u8], keys: &mut [u8], call: Call) -> Answer

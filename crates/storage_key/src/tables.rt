@@ -26,7 +26,7 @@ pub(crate) fn segment_table(storage: &[u8], keys: &mut [u8], call: Call) -> Step
     if (guest.cr6 / 536870912 % 8 != 4) | (address_word(call) % 16 != 0) {
         return Stepped::Stopped(refuse, 0);
     }
-    let field = access::micrseg(storage, keys, 2, guest);
+    let field = access::micblok_word(storage, keys, 2, access::MICRSEG, guest);
     let Stepped::Value(rseg, count) = field else {
         return field;
     };
@@ -110,10 +110,10 @@ pub(crate) fn page_of(
         ≡ seen (pageOf format segment at) (machine (now (storage .entry)) (now (keys .entry)))
         ⌝ }
 {
-    let place = access::page_entry_at(format, segment, at);
-    let field = access::control_halfword(storage, keys, 9, place);
-    let Stepped::Value(page, count) = field else {
-        return field;
+    let missing = Ending::FieldMissing(9);
+    let entry = access::page_entry(storage, keys, format, segment, at, missing);
+    let Stepped::Value(page, count) = entry else {
+        return entry;
     };
     if !access::is_invalid(format, page) & access::is_malformed(format, page) {
         return Stepped::Stopped(Ending::Interruption(Exception::PrivilegedOperation), count);

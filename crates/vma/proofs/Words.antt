@@ -27,7 +27,8 @@ last-three l h =
     let long : length l ≤ 19 = omega arith in
     let e : drop 19 l ≡ [] = drop-of-length-le l long in
     let all : drop 16 l ≡ getD l 16 0 ∷ getD l 17 0 ∷ getD l 18 0 ∷ [] =
-    a ∙ ap (λ (x : List ℕ). getD l 16 0 ∷ x) (b ∙ ap (λ (x : List ℕ). getD l 17 0 ∷ x) (d ∙ ap (λ (x : List ℕ). getD l 18 0 ∷ x) e)) in
+    a ∙ ap (λ (x : List ℕ). getD l 16 0 ∷ x)
+    (b ∙ ap (λ (x : List ℕ). getD l 17 0 ∷ x) (d ∙ ap (λ (x : List ℕ). getD l 18 0 ∷ x) e)) in
     ap (λ (x : List ℕ). take 16 l ++ x) (sym all) ∙ take-append-drop 16 l
 
 -- a record whose PSW alone may be another, with bits 0-31 as they were

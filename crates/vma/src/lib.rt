@@ -24,12 +24,14 @@ pub extern "C" fn vma_attempt(
     ensures result { λ r. ⌜
         r
         ≡ packed
-        (numbers (called (now (storage .entry)) (now (keys .entry)) (now (guest .entry)) first installed .answer .ending))
+        (numbers
+        (called (now (storage .entry)) (now (keys .entry)) (now (guest .entry)) first installed .answer .ending))
         (length (called (now (storage .entry)) (now (keys .entry)) (now (guest .entry)) first installed .references))
         ⌝ }
     ensures numbers { λ r. ⌜
         numbersIn r
-        ≡ numbers (called (now (storage .entry)) (now (keys .entry)) (now (guest .entry)) first installed .answer .ending)
+        ≡ numbers
+        (called (now (storage .entry)) (now (keys .entry)) (now (guest .entry)) first installed .answer .ending)
         ⌝ }
     ensures count { λ r. ⌜
         countIn r
@@ -37,7 +39,8 @@ pub extern "C" fn vma_attempt(
         ⌝ }
     ensures guest { λ r. ⌜
         now (guest .exit)
-        ≡ wordsOf (called (now (storage .entry)) (now (keys .entry)) (now (guest .entry)) first installed .answer .guest)
+        ≡ wordsOf
+        (called (now (storage .entry)) (now (keys .entry)) (now (guest .entry)) first installed .answer .guest)
         ⌝ }
     ensures untouched { λ r. ⌜ ((numbersIn r .number ≡ 0 → ⊥) → now (guest .exit) ≡ now (guest .entry)) ⌝ }
     ensures storage { λ r. ⌜

@@ -74,9 +74,10 @@ impl VectorSet {
     /// The report over the calls of the set.
     pub fn report(&self) -> String {
         let Shares { figures, single, in_lists, in_pairs } = self.shares;
+        let seed = self.options.seed;
+        let lists = format!("{in_lists} in lists, {in_pairs} in pairs of lists");
         format!(
-            "seed {}: {single} single calls, {in_lists} in lists, {in_pairs} in pairs of lists, {figures} in figures\n{}",
-            self.options.seed,
+            "seed {seed}: {single} single calls, {lists}, {figures} in figures\n{}",
             self.tally.text()
         )
     }

@@ -7,11 +7,12 @@ use Rattle.rules.specs.declared.call.Call.{Call}
 use Rattle.rules.specs.declared.mask_change.MaskChange.the-variants.{And, Or}
 use Rattle.rules.specs.Machine.{Machine}
 use Rattle.rules.specs.Steps.{Steps, branch}
-use Rattle.rules.specs.Call.{Completion}
+use Rattle.rules.specs.Call.{operation, Completion}
 use Rattle.rules.specs.StoreThenMask.{storeThen}
 use Rattle.rules.specs.Attempt.{instruction}
 use Rattle.storage.specs.Answers.{machine, seen, finish}
-use Rattle.storage.proofs.Laws.{Runs, Left, begin, chosen, rejected, continues}
+use Rattle.storage.proofs.Laws.{Runs, begin, chosen, rejected, continues}
+use Rattle.storage.proofs.Stages.{Reached, reached}
 use Rattle.assist.specs.Changes.{changeBy}
 use borrow.Author.Needs.{needs}
 use Rattle.assist.proofs.instruction.Statement.{statement}
@@ -31,92 +32,92 @@ module _ {m m′ : Machine} {t : Steps Completion} {n : ℕ} (c : Call) where
   no-change true b s h e = absurd (true≢false e)
   no-change false b s h e = rejected _ _ _ (rejected _ _ _ h refl) e
 
-abbrev Here : tie.Start → Type 0
-Here c = let a = c .args in Left (machine (a .storage .now) (a .keys .now)) (instruction (a .call))
+abbrev entry : tie.Start → Machine
+entry c = machine (c .args .storage .now) (c .args .keys .now)
 
-abbrev begun : (c : tie.Start) → Here c
-begun c = let a = c .args in (_, _, _, begin (machine (a .storage .now) (a .keys .now)) (instruction (a .call)))
+abbrev stage : tie.Start → Steps Completion
+stage c = instruction (c .args .call)
 
-abbrev not-ssm : (c : tie.Else1) → Here (c .before .before .before .before)
-unfolding instruction
-not-ssm c =
-    let start = c .before .before .before .before in
-    (_, _, _, rejected _ _ _ (begun start .3) (ne-eqb _ _ (λ e. c .if1 .left (c .before .operation .ensures ∙ e))))
+abbrev start : tie.After-operation → tie.Start
+start c = c .before .before .before
 
-abbrev not-stctl : (c : tie.Else2)
-    → let start = c .before .before .before .before .before in
-    Here start
-unfolding instruction not-ssm
-not-stctl c =
-    let at-operation = c .before .before in (
-      _,
-      _,
-      _,
-      rejected _ _ _ (not-ssm (c .before) .3)
-          (ne-eqb _ _ (λ e. c .if2 .left (at-operation .operation .ensures ∙ e))),
-    )
-
+-- SSM
 returns : tie.Need-returns
 unfolding instruction
 returns c =
-    let at-set-system-mask = c .before .before .before .before in
-    let at-if1 = at-set-system-mask .before .before .before in
-    let start = at-if1 .before .before .before .before in
-    let a = start .args in
-    continues (a .call .guest) (at-set-system-mask .set-system-mask .result)
-    (at-set-system-mask .set-system-mask .last .0) (at-set-system-mask .set-system-mask .last .1 .0)
-    (chosen _ _ _ (begun start .3) (eq-eqb _ _ (sym (at-if1 .before .operation .ensures) ∙ at-if1 .if1 .taken)))
-    (at-set-system-mask .set-system-mask .ensures)
+    let call = c .before .before .before .before in
+    let test = call .before .before .before in
+    let code = test .before in
+    continues (start code .args .call .guest) (call .set-system-mask .result) (call .set-system-mask .last .0)
+    (call .set-system-mask .last .1 .0)
+    (chosen _ _ _ (begin (entry (start code)) (stage (start code)))
+    (eq-eqb _ _ (sym (code .operation .ensures) ∙ test .if1 .taken)))
+    (call .set-system-mask .ensures)
 
+abbrev not-ssm : tie.Else1 → Reached entry stage
+unfolding instruction
+not-ssm c =
+    let code = c .before in
+    reached (start code)
+    (rejected _ _ _ (begin (entry (start code)) (stage (start code)))
+    (ne-eqb _ _ (λ e. c .if1 .left (code .operation .ensures ∙ e))))
+
+-- STCTL
 returns-2 : tie.Need-returns-2
 unfolding instruction not-ssm
 returns-2 c =
-    let at-store-control = c .before .before .before .before in
-    let at-if2 = at-store-control .before .before .before in
-    let at-operation = at-if2 .before .before in
-    let start = at-operation .before .before .before in
-    let a = start .args in
-    continues (a .call .guest) (at-store-control .store-control .result) (at-store-control .store-control .last .0)
-    (at-store-control .store-control .last .1 .0)
-    (chosen _ _ _ (not-ssm (at-if2 .before) .3)
-    (eq-eqb _ _ (sym (at-operation .operation .ensures) ∙ at-if2 .if2 .taken)))
-    (at-store-control .store-control .ensures)
+    let call = c .before .before .before .before in
+    let test = call .before .before .before in
+    let here = not-ssm (test .before) in
+    continues (here .start .args .call .guest) (call .store-control .result) (call .store-control .last .0)
+    (call .store-control .last .1 .0)
+    (chosen _ _ _ (here .runs) (eq-eqb _ _ (sym (test .before .before .operation .ensures) ∙ test .if2 .taken)))
+    (call .store-control .ensures)
+
+abbrev not-stctl : tie.Else2 → Reached entry stage
+unfolding instruction not-ssm
+not-stctl c =
+    let here = not-ssm (c .before) in
+    reached (here .start)
+    (rejected _ _ _ (here .runs) (ne-eqb _ _ (λ e. c .if2 .left (c .before .before .operation .ensures ∙ e))))
+
+-- STNSM and STOSM, or none of the two
+abbrev code : tie.After-is-store-then → tie.After-operation
+code c = c .before .before .before
+
+one-of-two : (c : tie.After-is-store-then)
+    → let op = operation (start (code c) .args .call) in
+    (eqb op 0xac || eqb op 0xad) ≡ c .is-store-then .result
+one-of-two c =
+    ap (λ o. eqb o 0xac || eqb o 0xad) (sym (code c .operation .ensures)) ∙ sym (c .is-store-then .ensures)
 
 returns-3 : tie.Need-returns-3
 unfolding instruction not-ssm not-stctl
 returns-3 c =
-    let at-store-then = c .before .before .before .before in
-    let at-mask-change = at-store-then .before in
-    let at-if3 = at-mask-change .before .before .before in
-    let at-is-store-then = at-if3 .before in
-    let at-operation = at-is-store-then .before .before .before in
-    let start = at-operation .before .before .before in
-    let a = start .args in
-    let m = machine (a .storage .now) (a .keys .now) in
-    let operation = at-operation .operation .ensures in
-    let one-of-two = ap (λ o. eqb o 0xac || eqb o 0xad) (sym operation) ∙ sym (at-is-store-then .is-store-then .ensures)
-    ∙ at-if3 .if3 .taken in
-    let change = at-mask-change .mask-change .ensures ∙ ap (λ o. changeBy (eqb o 0xac)) operation in
-    continues (a .call .guest) (at-store-then .store-then .result) (at-store-then .store-then .last .0)
-    (at-store-then .store-then .last .1 .0)
-    (either-change (a .call) _ _ _ (not-stctl (at-is-store-then .before) .3) one-of-two)
-    (at-store-then .store-then .ensures ∙ ap (λ x. finish (a .call .guest) (seen (storeThen x (a .call)) m)) change)
+    let call = c .before .before .before .before in
+    let change = call .before in
+    let test = change .before .before .before in
+    let two = test .before in
+    let here = not-stctl (two .before) in
+    let a = here .start .args in
+    continues (a .call .guest) (call .store-then .result) (call .store-then .last .0) (call .store-then .last .1 .0)
+    (either-change (a .call) _ _ _ (here .runs) (one-of-two two ∙ test .if3 .taken))
+    (call .store-then .ensures
+    ∙ ap (λ x. finish (a .call .guest) (seen (storeThen x (a .call)) (entry (here .start))))
+    (change .mask-change .ensures ∙ ap (λ o. changeBy (eqb o 0xac)) (code two .operation .ensures)))
 
+-- SSK
 returns-4 : tie.Need-returns-4
 unfolding instruction not-ssm not-stctl
 returns-4 c =
-    let at-set-storage-key = c .before .before .before .before in
-    let at-if3 = at-set-storage-key .before .before .before in
-    let at-is-store-then = at-if3 .before in
-    let at-operation = at-is-store-then .before .before .before in
-    let start = at-operation .before .before .before in
-    let a = start .args in
-    let neither = ap (λ o. eqb o 0xac || eqb o 0xad) (sym (at-operation .operation .ensures))
-    ∙ sym (at-is-store-then .is-store-then .ensures) ∙ at-if3 .if3 .left in
-    continues (a .call .guest) (at-set-storage-key .set-storage-key .result)
-    (at-set-storage-key .set-storage-key .last .0) (at-set-storage-key .set-storage-key .last .1 .0)
-    (no-change (a .call) _ _ _ (not-stctl (at-is-store-then .before) .3) neither)
-    (at-set-storage-key .set-storage-key .ensures)
+    let call = c .before .before .before .before in
+    let test = call .before .before .before in
+    let here = not-stctl (test .before .before) in
+    let a = here .start .args in
+    continues (a .call .guest) (call .set-storage-key .result) (call .set-storage-key .last .0)
+    (call .set-storage-key .last .1 .0)
+    (no-change (a .call) _ _ _ (here .runs) (one-of-two (test .before) ∙ test .if3 .left))
+    (call .set-storage-key .ensures)
 
 pub instruction-spec : {M : Type 1} → statement M
 instruction-spec =

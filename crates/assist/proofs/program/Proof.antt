@@ -1,132 +1,104 @@
-use mathlib.Core.Path.{_≡_, sym, ap, _∙_}
+use mathlib.Core.Path.{ap}
 use mathlib.Core.Bool.{not}
 use lib.ListN.{length}
-use Rattle.rules.specs.Call.{operation}
-use Rattle.rules.specs.Attempt.{isAssisted, program}
+use Rattle.rules.specs.Machine.{Machine}
+use Rattle.rules.specs.Steps.{Steps}
+use Rattle.rules.specs.Call.{Completion}
+use Rattle.rules.specs.Attempt.{admitted, program}
 use Rattle.storage.specs.Answers.{machine}
-use Rattle.storage.proofs.Laws.{Left, begin, pass, stops, stopped-by, continues}
+use Rattle.storage.proofs.Laws.{begin, continues}
+use Rattle.storage.proofs.Stages.{Tested, tests, passed, stopped-with}
 use borrow.Author.Needs.{needs}
 use Rattle.assist.proofs.program.Statement.{statement}
 use Rattle.assist.proofs.program.Tie as tie
 
-abbrev Here : tie.Start → Type 0
-Here c =
-    let a = c .args in
-    let s = a .storage .now in
-    let ks = a .keys .now in
-    Left (machine s ks) (program (length s) (length ks) (a .call))
+abbrev entry : tie.Start → Machine
+entry c = machine (c .args .storage .now) (c .args .keys .now)
 
-abbrev begun : (c : tie.Start) → Here c
-begun c =
-    let a = c .args in
-    let s = a .storage .now in
-    let ks = a .keys .now in
-    (_, _, _, begin (machine s ks) (program (length s) (length ks) (a .call)))
+abbrev stage : tie.Start → Steps Completion
+stage c = program (length (c .args .storage .now)) (length (c .args .keys .now)) (c .args .call)
 
--- 10 passed
-abbrev stored : (c : tie.Else1)
-    → let start = c .before .before .before .before .before in
-    Here start
-unfolding program
-stored c =
-    let start = c .before .before .before .before .before in
-    (_, _, _, pass _ _ _ (begun start .3) (sym (c .before .is-wrong-storage .ensures) ∙ c .if1 .left))
-
--- 11
-abbrev keyed : (c : tie.Else2)
-    → let start = c .before .before .before .before .before .before .before in
-    Here start
-unfolding program stored
-keyed c =
-    let at-if1 = c .before .before in
-    (_, _, _, pass _ _ _ (stored at-if1 .3) (sym (c .before .is-wrong-keys .ensures) ∙ c .if2 .left))
-
--- 12
-abbrev even : (c : tie.Else3)
-    → let start = c .before .before .before .before .before .before .before .before .before in
-    Here start
-unfolding program stored keyed
-even c =
-    let at-if2 = c .before .before in
-    (_, _, _, pass _ _ _ (keyed at-if2 .3) (sym (c .before .is-odd .ensures) ∙ c .if3 .left))
-
--- 13
-assisted : (c : tie.After-is-assisted)
-    → let at-slice-known = c .before .before .before .before .before .before .before .before .before .before in
-    not (c .is-assisted .result) ≡ not (isAssisted (operation (at-slice-known .before .args .call)))
-assisted c = ap not (simp (c .before .operation .ensures) at (c .is-assisted .ensures))
-
-abbrev known : (c : tie.Else4)
-    → let at-slice-known2 = c .before .before .before .before .before .before .before .before .before .before in
-    let start = at-slice-known2 .before .before in
-    Here start
-unfolding program stored keyed even
-known c =
-    let at-if3 = c .before .before .before in
-    (_, _, _, pass _ _ _ (even at-if3 .3) (sym (assisted (c .before)) ∙ c .if4 .left))
+-- 10
+abbrev storage : tie.After-is-wrong-storage → Tested entry stage
+unfolding admitted
+storage c =
+    let start = c .before .before .before .before in
+    tests start _ _ _ (begin (entry start) (stage start)) (c .is-wrong-storage .result) (c .is-wrong-storage .ensures)
 
 returns : tie.Need-returns
-unfolding program
+unfolding admitted storage
 returns c =
-    let at-is-wrong-storage = c .before .before in
-    let start = at-is-wrong-storage .before .before .before .before in
-    let a = start .args in
-    stopped-by (a .call .guest) (c .refusal .result) (a .storage .now) (a .keys .now) (c .refusal .ensures)
-    (stops _ _ _ (begun start .3) (sym (at-is-wrong-storage .is-wrong-storage .ensures) ∙ c .before .if1 .taken))
+    let test = storage (c .before .before) in
+    stopped-with (test .start .args .call .guest) (c .refusal .result) test (c .refusal .ensures)
+    (c .before .if1 .taken)
+
+-- 11
+abbrev keys : tie.After-is-wrong-keys → Tested entry stage
+unfolding admitted storage
+keys c =
+    let here = passed (storage (c .before .before)) (c .before .if1 .left) in
+    tests (here .start) _ _ _ (here .runs) (c .is-wrong-keys .result) (c .is-wrong-keys .ensures)
 
 returns-2 : tie.Need-returns-2
-unfolding program stored
+unfolding admitted storage keys
 returns-2 c =
-    let at-is-wrong-keys = c .before .before in
-    let start = at-is-wrong-keys .before .before .before .before .before .before in
-    let a = start .args in
-    stopped-by (a .call .guest) (c .refusal2 .result) (a .storage .now) (a .keys .now) (c .refusal2 .ensures)
-    (stops _ _ _ (stored (at-is-wrong-keys .before) .3)
-    (sym (at-is-wrong-keys .is-wrong-keys .ensures) ∙ c .before .if2 .taken))
+    let test = keys (c .before .before) in
+    stopped-with (test .start .args .call .guest) (c .refusal2 .result) test (c .refusal2 .ensures)
+    (c .before .if2 .taken)
+
+-- 12
+abbrev odd : tie.After-is-odd → Tested entry stage
+unfolding admitted storage keys
+odd c =
+    let here = passed (keys (c .before .before)) (c .before .if2 .left) in
+    tests (here .start) _ _ _ (here .runs) (c .is-odd .result) (c .is-odd .ensures)
 
 returns-3 : tie.Need-returns-3
-unfolding program stored keyed
+unfolding admitted storage keys odd
 returns-3 c =
-    let at-is-odd = c .before .before in
-    let start = at-is-odd .before .before .before .before .before .before .before .before in
-    let a = start .args in
-    stopped-by (a .call .guest) (c .refusal3 .result) (a .storage .now) (a .keys .now) (c .refusal3 .ensures)
-    (stops _ _ _ (keyed (at-is-odd .before) .3) (sym (at-is-odd .is-odd .ensures) ∙ c .before .if3 .taken))
+    let test = odd (c .before .before) in
+    stopped-with (test .start .args .call .guest) (c .refusal3 .result) test (c .refusal3 .ensures)
+    (c .before .if3 .taken)
+
+-- 13
+abbrev assisted : tie.After-is-assisted → Tested entry stage
+unfolding admitted storage keys odd
+assisted c =
+    let even = c .before .before in
+    let here = passed (odd (even .before)) (even .if3 .left) in
+    tests (here .start) _ _ _ (here .runs) (not (c .is-assisted .result))
+    (ap not (simp (c .before .operation .ensures) at (c .is-assisted .ensures)))
 
 returns-4 : tie.Need-returns-4
-unfolding program stored keyed even
+unfolding admitted storage keys odd assisted
 returns-4 c =
-    let at-is-assisted = c .before .before in
-    let at-if3 = at-is-assisted .before .before in
-    let start = at-if3 .before .before .before .before .before .before .before .before .before in
-    let a = start .args in
-    stopped-by (a .call .guest) (c .refusal4 .result) (a .storage .now) (a .keys .now) (c .refusal4 .ensures)
-    (stops _ _ _ (even at-if3 .3) (sym (assisted at-is-assisted) ∙ c .before .if4 .taken))
+    let test = assisted (c .before .before) in
+    stopped-with (test .start .args .call .guest) (c .refusal4 .result) test (c .refusal4 .ensures)
+    (c .before .if4 .taken)
+
+-- 9
+abbrev mode : tie.After-is-wrong-mode → Tested entry stage
+unfolding admitted storage keys odd assisted
+mode c =
+    let here = passed (assisted (c .before .before)) (c .before .if4 .left) in
+    tests (here .start) _ _ _ (here .runs) (c .is-wrong-mode .result) (c .is-wrong-mode .ensures)
 
 returns-5 : tie.Need-returns-5
-unfolding program stored keyed even known
+unfolding admitted storage keys odd assisted mode
 returns-5 c =
-    let at-is-wrong-mode = c .before .before in
-    let at-guest = at-is-wrong-mode .before .before .before .before .before .before .before .before .before .before in
-    let start = at-guest .before .before .before in
-    let a = start .args in
-    stopped-by (a .call .guest) (c .refusal5 .result) (a .storage .now) (a .keys .now) (c .refusal5 .ensures)
-    (stops _ _ _ (known (at-is-wrong-mode .before) .3)
-    (sym (at-is-wrong-mode .is-wrong-mode .ensures) ∙ c .before .if5 .taken))
+    let test = mode (c .before .before) in
+    stopped-with (test .start .args .call .guest) (c .refusal5 .result) test (c .refusal5 .ensures)
+    (c .before .if5 .taken)
 
+-- and then the instruction
 returns-6 : tie.Need-returns-6
-unfolding program stored keyed even known
+unfolding admitted storage keys odd assisted mode
 returns-6 c =
-    let at-instruction = c .before .before .before .before in
-    let at-if5 = at-instruction .before .before .before in
-    let at-if4 = at-if5 .before .before in
-    let at-slice-known2 = at-if4 .before .before .before .before .before .before .before .before .before .before in
-    let start = at-slice-known2 .before .before in
-    let a = start .args in
-    continues (a .call .guest) (at-instruction .instruction .result) (at-instruction .instruction .last .0)
-    (at-instruction .instruction .last .1 .0)
-    (pass _ _ _ (known at-if4 .3) (sym (at-if5 .before .is-wrong-mode .ensures) ∙ at-if5 .if5 .left))
-    (at-instruction .instruction .ensures)
+    let call = c .before .before .before .before in
+    let test = call .before .before .before in
+    let here = passed (mode (test .before)) (test .if5 .left) in
+    continues (here .start .args .call .guest) (call .instruction .result) (call .instruction .last .0)
+    (call .instruction .last .1 .0) (here .runs) (call .instruction .ensures)
 
 pub program-spec : {M : Type 1} → statement M
 program-spec =

@@ -15,7 +15,7 @@ use Rattle.rules.specs.SetSystemMask.{setSystemMask}
 use Rattle.rules.specs.StoreControl.{storeControl}
 use Rattle.rules.specs.StoreThenMask.{And, Or, storeThen}
 use Rattle.rules.specs.SetStorageKey.{setStorageKey}
-use Rattle.rules.specs.Attempt.{isAssisted, instruction, program, reading}
+use Rattle.rules.specs.Attempt.{isAssisted, admitted, instruction, program, reading}
 use Rattle.rules.proofs.Within.{Came, run-came, within-more}
 use Rattle.rules.proofs.Fits.{Stops, stops, Completes, completes-more, Fits}
 use Rattle.rules.proofs.Fits.SetSystemMask.{setSystemMask-fits}
@@ -80,7 +80,7 @@ module _ (c : Call) (h : isAssisted (operation c) ≡ true) where
 
 -- whatever the sizes
 pub attempt-fits : (bytes keys : ℕ) (c : Call) → Fits (operation c) c (program bytes keys c) 85
-unfolding _>>=_ stopIf program
+unfolding _>>=_ stopIf admitted
 attempt-fits bytes keys c = (
   λ t. stops refl refl refl,
   λ t. (

@@ -12,7 +12,6 @@ use Rattle.rules.specs.Endings.{Ending}
 use Rattle.rules.specs.Call.{Call}
 use Rattle.rules.specs.Theorems.Samples.{machineWith, guestWith, callOf, callWith, vpswAt, ec, bc}
 use Rattle.rules.specs.Theorems.WrongPrograms.{
-  admission,
   Program,
   Differs,
   DiffersOnList,
@@ -39,7 +38,7 @@ byteAt a m = getD (m .storage) a 0
 
 -- BC, pending, old FF, new 00: completes; with the pending bit in the address the virtual PSW is not in storage
 pending-in-address : Differs (attemptWith 0x80 pendingInAddress)
-unfolding computing admission pendingInAddress
+unfolding computing pendingInAddress
 pending-in-address = record {
   machine = machineWith (vpswAt true 0x18 ∷ store 0x18 2 (bc 0xff) ∷ []);
   call = callWith 0x8000 0 true;
@@ -48,7 +47,7 @@ pending-in-address = record {
 
 -- two words at FFC, at the end of storage: code 5, and nothing is stored
 stored-before-tested : Differs storedBeforeTested
-unfolding computing admission storeEach registersToStore storeEarly storedBeforeTested
+unfolding computing storeEach registersToStore storeEarly storedBeforeTested
 stored-before-tested = record {
   machine = machineWith (store 0x1e 2 0x0ffc ∷ []);
   call = callWith 0xb601 0 true;
@@ -57,7 +56,7 @@ stored-before-tested = record {
 
 -- STNSM in the last halfword of storage: refused
 exception-as-itself : Differs (attemptWith 0xac exceptionAsItself)
-unfolding computing admission storeThenAndBy exceptionAsItself
+unfolding computing storeThenAndBy exceptionAsItself
 exception-as-itself = record {
   machine = machineWith [];
   call = callOf (guestWith 0xffe 0 0x80000008) 0xacff true;
@@ -66,7 +65,7 @@ exception-as-itself = record {
 
 -- STNSM whose operand is the second byte of the virtual PSW: the old mask stays there
 whole-halfword : Differs (attemptWith 0xac wholeHalfword)
-unfolding computing admission storeThenAndBy wholeHalfword
+unfolding computing storeThenAndBy wholeHalfword
 whole-halfword = record {
   machine = machineWith (store 0x18 2 (ec 0x07) ∷ store 0x1e 2 0x0019 ∷ []);
   call = callWith 0xacff 0 true;
@@ -84,7 +83,7 @@ ssm = callWith 0x8000 0 true
 
 -- one that leaves all as it was there
 unchanged : (wrong : Program) → wrong edge ssm .after ≡ edge → Differs wrong
-unfolding computing admission
+unfolding computing
 unchanged wrong e = record {
   machine = edge;
   call = ssm;
@@ -101,7 +100,7 @@ stores-nothing = unchanged storesNothing refl
 
 -- the count of that edge is 9, and with an odd instruction address 0
 invents-count : (n : ℕ) → Differs (inventsCount n)
-unfolding computing admission
+unfolding computing
 invents-count n = go (eqb n 9) refl
   where
     go : (b : Bool) → eqb n 9 ≡ b → Differs (inventsCount n)
@@ -118,7 +117,7 @@ invents-count n = go (eqb n 9) refl
 
 -- SSM, and then STNSM, which makes the mask 04 again
 first-call-only : DiffersOnList firstCallOnly
-unfolding computing admission
+unfolding computing
 first-call-only = record {
   machine = edge;
   calls = ssm ∷ callWith 0xacfc 0 true ∷ [];

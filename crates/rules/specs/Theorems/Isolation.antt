@@ -14,12 +14,13 @@ abbrev pub All : {A : Type 0} → (A → Type 0) → List A → Type 0
 All P [] = Unit {0}
 All P (x ∷ xs) = P x × All P xs
 
--- a part: any choice of byte addresses and key numbers
+-- document 01's "part": any choice of byte addresses and key numbers
 pub record Part : Type 1 where
   pub bytes : ℕ → Type 0
   pub keys : ℕ → Type 0
 
--- an entry consults nothing in a part: it names no byte and no key of it, stores and key settings included
+-- an entry consults nothing in a part: it names (document 01's "consults") no byte and no key of it, stores and key
+-- settings included
 pub record Clear (part : Part) (r : Reference) : Type 0 where
   pub bytes : All (λ a. part .bytes a → ⊥) (bytesOf r)
   pub keys : All (λ k. part .keys k → ⊥) (keysOf r)

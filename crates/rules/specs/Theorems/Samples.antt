@@ -57,14 +57,14 @@ abbrev pub bc : ℕ → ℕ
 bc old = old * 256
 
 -- what is compared: the ending's numbers, the count, the next instruction's address, every byte and every key
-pub record Seen : Type 0 where
+pub record Compared : Type 0 where
   pub ending : Numbers
   pub count : ℕ
   pub next : ℕ
   pub after : Machine
 
-abbrev pub seen : Result → Seen
-seen r = record {
+abbrev pub compared : Result → Compared
+compared r = record {
   ending = numbers (r .answer .ending);
   count = r .answer .count;
   next = instructionAddress (r .answer .guest);
@@ -75,11 +75,11 @@ seen r = record {
 pub record Row : Type 0 where
   pub machine : Machine
   pub call : Call
-  pub gives : Seen
+  pub gives : Compared
 
 -- every row of a table gives what it is to give
 abbrev pub Hold : List Row → Type 0
-Hold rows = map (λ r. seen (attempt (r .machine) (r .call))) rows ≡ map (λ r. r .gives) rows
+Hold rows = map (λ r. compared (attempt (r .machine) (r .call))) rows ≡ map (λ r. r .gives) rows
 
 -- a row that completes with these writes
 abbrev pub completes : Machine → Call → (count next : ℕ) → List Write → Row

@@ -8,17 +8,8 @@ use lib.ListN.{length}
 use lib.Dec.{eqb}
 use Rattle.rules.specs.Machine.{Machine, _⊕_, store, perform}
 use Rattle.rules.specs.References.{Reference, wrote}
-use Rattle.rules.specs.Guest.{effective, advance}
-use Rattle.rules.specs.Endings.{
-  Ending,
-  Completed,
-  WrongMode,
-  WrongStorageSize,
-  WrongKeyCount,
-  OddInstructionAddress,
-  NotAssisted,
-  refuse,
-}
+use Rattle.rules.specs.Guest.{assistsControl, effective, advance}
+use Rattle.rules.specs.Endings.{Ending, Completed, refuse}
 use Rattle.rules.specs.Steps.{Steps, done, branch, _>>=_, _>>_, stopIf, endingAs}
 use Rattle.rules.specs.Run.{ended, gave, either, run}
 use Rattle.rules.specs.Access.{storeTest, secondHalfword}
@@ -26,14 +17,10 @@ use Rattle.rules.specs.ControlFields.{controlHalfword, miccreg, micvpsw,
 use Rattle.rules.specs.Masks.{maskIn, extendedIn}
 use Rattle.rules.specs.Call.{Call, expanded, operation, r1, r3, immediate, Completion, complete}
 use Rattle.rules.specs.SetSystemMask.{maskOperand, maskNeedsExpanded, maskRefused}
-use Rattle.rules.specs.StoreControl.{assistsControl, registerCount, virtualRegisters}
+use Rattle.rules.specs.StoreControl.{registerCount, virtualRegisters}
 use Rattle.rules.specs.StoreThenMask.{And, newMask, needsExpanded}
 use Rattle.rules.specs.Attempt.{
-  wrongStorage,
-  wrongKeys,
-  oddAddress,
-  isAssisted,
-  wrongMode,
+  admitted,
   instruction,
   Result,
   answered,
@@ -41,7 +28,7 @@ use Rattle.rules.specs.Attempt.{
   attempt,
 }
 use Rattle.rules.specs.Calls.{left}
-use Rattle.rules.specs.Theorems.Samples.{seen}
+use Rattle.rules.specs.Theorems.Samples.{compared}
 
 abbrev pub Program : Type 0
 Program = Machine → Call → Result
@@ -49,23 +36,15 @@ Program = Machine → Call → Result
 pub record Differs (wrong : Program) : Type 0 where
   pub machine : Machine
   pub call : Call
-  pub differ : seen (wrong machine call) ≡ seen (attempt machine call) → ⊥
+  pub differ : compared (wrong machine call) ≡ compared (attempt machine call) → ⊥
 
--- the tests before the instruction
-unfoldable pub admission : Machine → Call → Steps (Unit {0})
-admission m c = do
-  stopIf (wrongStorage (length (m .storage))) WrongStorageSize
-  stopIf (wrongKeys (length (m .storage)) (length (m .keys))) WrongKeyCount
-  stopIf (oddAddress (c .guest)) OddInstructionAddress
-  stopIf (not (isAssisted (operation c))) NotAssisted
-  stopIf (wrongMode (c .guest)) WrongMode
+abbrev pub admittedOn : {A : Type 0} → Machine → (Call → Steps A) → Call → Steps A
+admittedOn m = admitted (length (m .storage)) (length (m .keys))
 
 -- the attempt, with another reading program for one operation code
 abbrev pub attemptWith : (op : ℕ) → (Call → Steps Completion) → Program
 attemptWith op wrong m c =
-    let r = run (do
-      admission m c
-      branch (eqb (operation c) op) (wrong c) (instruction c)) m in
+    let r = run (admittedOn m (λ c. branch (eqb (operation c) op) (wrong c) (instruction c)) c) m in
     conclude m (c .guest) (r .references) (r .outcome)
 
 -- ---- the wrong turns
@@ -97,10 +76,9 @@ pub record Operand : Type 0 where
   pub address : ℕ
   pub values : List ℕ
 
-unfoldable pub registersToStore : Machine → Call → Steps Operand
-registersToStore m c = do
+unfoldable pub registersToStore : Call → Steps Operand
+registersToStore c = do
   let g = c .guest
-  admission m c
   stopIf (not (assistsControl g)) refuse
   creg ← miccreg 2 g
   second ← secondHalfword g
@@ -110,7 +88,7 @@ registersToStore m c = do
 
 unfoldable pub storeEarly : Program
 storeEarly m c =
-    let r = run (registersToStore m c) m in
+    let r = run (admittedOn m registersToStore c) m in
     elim (r .outcome) [
       | ended e ↦ answered e (c .guest) (r .references) m
       | gave operand ↦ storeEach c (r .references) (operand .address) (operand .values) m

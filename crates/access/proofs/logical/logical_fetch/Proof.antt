@@ -1,54 +1,40 @@
+use Prim.Native.Nat.{ℕ}
+use Rattle.rules.specs.Machine.{Machine}
+use Rattle.rules.specs.Steps.{Steps}
 use Rattle.rules.specs.Access.{logicalFetch}
 use Rattle.storage.specs.Items.{bytesIn}
 use Rattle.storage.specs.Answers.{machine}
-use Rattle.storage.proofs.Laws.{Left, begin, fresh, waited, step, hands, last}
+use Rattle.storage.proofs.Laws.{begin, fresh, last-after}
+use Rattle.storage.proofs.Stages.{Asked, asks, given, handed}
 use borrow.Author.Needs.{needs}
 use Rattle.access.proofs.logical.logical_fetch.Statement.{statement}
 use Rattle.access.proofs.logical.logical_fetch.Tie as tie
 
-abbrev tested : (c : tie.After-known-told)
-    → let start = c .before .before .before .before .before .before .before .before .before in
-    let start = start in
-    let a = start .args in Left (machine (a .storage .now) (a .keys .now))
-    (logicalFetch (a .guest) (a .at) (bytesIn (a .width)))
+abbrev entry : tie.Start → Machine
+entry c = machine (c .args .storage .now) (c .args .keys .now)
+
+abbrev stage : tie.Start → Steps ℕ
+stage c = logicalFetch (c .args .guest) (c .args .at) (bytesIn (c .args .width))
+
+abbrev tested : tie.After-fetch-test → Asked entry stage
 unfolding logicalFetch
 tested c =
-    let at-fetch-test = c .before .before .before .before .before in
-    let at-fetch-test = at-fetch-test in
-    let start = at-fetch-test .before .before .before .before in
-    let a = start .args in
-    let m = machine (a .storage .now) (a .keys .now) in (
-      _,
-      _,
-      _,
-      step (at-fetch-test .fetch-test .result) (a .storage .now) (at-fetch-test .fetch-test .last .1 .0) _ _
-          (begin m (logicalFetch (a .guest) (a .at) (bytesIn (a .width)))) (fresh _ _ (at-fetch-test .fetch-test .ensures))
-          (c .before .tested .given .1),
-    )
+    let start = c .before .before .before .before in
+    asks start _ _ (begin (entry start) (stage start)) (c .fetch-test .result) (start .args .storage .now)
+    (c .fetch-test .last .1 .0) (fresh _ _ (c .fetch-test .ensures))
 
 returns : tie.Need-returns
-unfolding logicalFetch
-returns c =
-    let at-fetch-test = c .before .before .before .before in
-    let at-fetch-test = at-fetch-test in
-    let start = at-fetch-test .before .before .before .before in
-    let a = start .args in
-    let m = machine (a .storage .now) (a .keys .now) in
-    hands (at-fetch-test .fetch-test .result) (a .storage .now) (at-fetch-test .fetch-test .last .1 .0) _ _
-    (begin m (logicalFetch (a .guest) (a .at) (bytesIn (a .width)))) (fresh _ _ (at-fetch-test .fetch-test .ensures))
-    (c .enum-told .given .1)
+unfolding logicalFetch tested
+returns c = handed (tested (c .before .before .before .before)) (c .enum-told .given .1)
 
 returns-2 : tie.Need-returns-2
 unfolding logicalFetch tested
 returns-2 c =
-    let at-fetch = c .before .before .before in
-    let at-fetch = at-fetch in
-    let at-known-told = at-fetch .before .before in
-    let start = at-known-told .before .before .before .before .before .before .before .before .before in
-    let s = start .args .storage .now in
-    let ks = at-fetch .fetch .last .1 .0 in
-    last (c .after .result) s ks _ (tested at-known-told .3)
-    (waited (at-fetch .fetch .result) (c .after .result) _ s ks _ _ (c .after .ensures) (at-fetch .fetch .ensures))
+    let call = c .before .before .before in
+    let found = call .before .before .before in
+    let here = given (tested (found .before .before .before .before)) (found .tested .given .1) in
+    last-after _ (here .runs) (call .fetch .result) (c .after .result) (here .start .args .storage .now)
+    (call .fetch .last .1 .0) (c .after .ensures) (call .fetch .ensures)
 
 pub logical-fetch-spec : {M : Type 1} → statement M
 logical-fetch-spec =

@@ -1,58 +1,53 @@
-use mathlib.Core.Path.{sym, ap, _∙_}
+use Prim.Native.Nat.{ℕ}
+use mathlib.Core.Path.{ap}
 use mathlib.Core.Bool.{not}
+use Rattle.rules.specs.Machine.{Machine}
+use Rattle.rules.specs.Steps.{Steps}
 use Rattle.rules.specs.StoreControl.{controlBlock}
 use Rattle.storage.specs.Answers.{machine}
-use Rattle.storage.proofs.Laws.{Left, begin, fresh, pass, stops, step, hands, settles}
+use Rattle.storage.proofs.Laws.{begin, fresh, settles}
+use Rattle.storage.proofs.Stages.{Asked, Tested, asks, given, tests, passed, stopped, handed}
 use borrow.Author.Needs.{needs}
 use Rattle.control.proofs.operand.control_block.Statement.{statement}
 use Rattle.control.proofs.operand.control_block.Tie as tie
 
--- step 1 passed
-abbrev assisted : (c : tie.Else1)
-    → let start = c .before .before .before .before in
-    let a = start .args in Left (machine (a .storage .now) (a .keys .now)) (controlBlock (a .guest))
+abbrev entry : tie.Start → Machine
+entry c = machine (c .args .storage .now) (c .args .keys .now)
+
+abbrev stage : tie.Start → Steps ℕ
+stage c = controlBlock (c .args .guest)
+
+-- step 1
+abbrev assisted : tie.After-assists-control → Tested entry stage
 unfolding controlBlock
 assisted c =
-    let start = c .before .before .before .before in
-    let a = start .args in
-    let m = machine (a .storage .now) (a .keys .now) in (
-      _,
-      _,
-      _,
-      pass _ _ _ (begin m (controlBlock (a .guest)))
-          (ap not (sym (c .before .assists-control .ensures)) ∙ c .if1 .left),
-    )
+    let start = c .before .before .before in
+    tests start _ _ _ (begin (entry start) (stage start)) (not (c .assists-control .result))
+    (ap not (c .assists-control .ensures))
 
 returns : tie.Need-returns
-unfolding controlBlock
-returns c =
-    let start = c .before .before .before .before in
-    let a = start .args in
-    let m = machine (a .storage .now) (a .keys .now) in
-    stops _ _ _ (begin m (controlBlock (a .guest)))
-    (ap not (sym (c .before .assists-control .ensures)) ∙ c .if1 .taken)
+unfolding controlBlock assisted
+returns c = stopped (assisted (c .before)) (c .if1 .taken)
+
+-- step 2: MICCREG
+abbrev field : tie.After-micblok-word → Asked entry stage
+unfolding controlBlock assisted
+field c =
+    let on = c .before .before in
+    let here = passed (assisted (on .before)) (on .if1 .left) in
+    asks (here .start) _ _ (here .runs) (c .micblok-word .result) (here .start .args .storage .now)
+    (c .micblok-word .last .1 .0) (fresh _ _ (c .micblok-word .ensures))
 
 returns-2 : tie.Need-returns-2
-unfolding controlBlock assisted
-returns-2 c =
-    let at-miccreg = c .before .before .before .before in
-    let at-if1 = at-miccreg .before .before in
-    let start = at-if1 .before .before .before .before in
-    hands (at-miccreg .miccreg .result) (start .args .storage .now) (at-miccreg .miccreg .last .1 .0) _ _
-    (assisted at-if1 .3)
-    (fresh _ _ (at-miccreg .miccreg .ensures)) (c .enum-told .given .1)
+unfolding controlBlock assisted field
+returns-2 c = handed (field (c .before .before .before .before)) (c .enum-told .given .1)
 
 returns-3 : tie.Need-returns-3
-unfolding controlBlock assisted
+unfolding controlBlock assisted field
 returns-3 c =
-    let at-field = c .before .before in
-    let at-miccreg = at-field .before .before .before .before in
-    let at-if1 = at-miccreg .before .before in
-    let start = at-if1 .before .before .before .before in
+    let found = c .before .before in
     simp (c .address-in .ensures)
-    (settles _ (step (at-miccreg .miccreg .result) (start .args .storage .now) (at-miccreg .miccreg .last .1 .0) _ _
-    (assisted at-if1 .3)
-    (fresh _ _ (at-miccreg .miccreg .ensures)) (at-field .field .given .1)))
+    (settles _ (given (field (found .before .before .before .before)) (found .field .given .1) .runs))
 
 pub control-block-spec : {M : Type 1} → statement M
 control-block-spec =

@@ -3,130 +3,131 @@ use native.Mathlib.Omega.{arith}
 use mathlib.Core.Path.{_≡_, sym, ap, _∙_}
 use mathlib.Core.List.{List}
 use lib.ListN.{length, take, length-take}
-use Rattle.rules.specs.Call.{r1, r3}
+use Rattle.rules.specs.Machine.{Machine}
+use Rattle.rules.specs.Steps.{Steps}
+use Rattle.rules.specs.Call.{r1, r3, Completion}
 use Rattle.rules.specs.StoreControl.{registerCount, wordStores, storeControl}
 use Rattle.storage.specs.Answers.{machine, completion}
-use Rattle.storage.proofs.Laws.{Left, begin, fresh, waited, step, halts, ended-by, completes}
-use Rattle.control.proofs.Turns.{has-words, no-words}
+use Rattle.storage.proofs.Laws.{begin, fresh, completes}
+use Rattle.storage.proofs.Stages.{Reached, Asked, asks, asks-after, given, reached-keys, ended-with}
+use Rattle.control.proofs.Turns.{AskedWords, asks-words, given-words, ended-without}
 use Rattle.control.proofs.Words.{stores-length}
 use borrow.Author.Needs.{needs}
 use Rattle.control.proofs.stctl.store_control.Statement.{statement}
 use Rattle.control.proofs.stctl.store_control.Tie as tie
 
-abbrev Here : tie.Start → Type 0
-Here c = let a = c .args in Left (machine (a .storage .now) (a .keys .now)) (storeControl (a .call))
+abbrev entry : tie.Start → Machine
+entry c = machine (c .args .storage .now) (c .args .keys .now)
+
+abbrev stage : tie.Start → Steps Completion
+stage c = storeControl (c .args .call)
+
+abbrev wanted : tie.Start → ℕ
+wanted c = registerCount (r1 (c .args .call)) (r3 (c .args .call))
 
 -- steps 1 and 2
-abbrev block : (c : tie.After-known-told)
-    → let at-slice-known = c .before .before .before .before .before .before .before .before .before .before in
-    Here (at-slice-known .before)
+abbrev block : tie.After-control-block → Asked entry stage
 unfolding storeControl
 block c =
-    let at-control-block = c .before .before .before .before .before in
-    let start = at-control-block .before .before .before .before .before .before in
-    let a = start .args in
-    let m = machine (a .storage .now) (a .keys .now) in (
-      _,
-      _,
-      _,
-      step (at-control-block .control-block .result) (a .storage .now)
-          (at-control-block .control-block .last .1 .0) _ _ (begin m (storeControl (a .call)))
-          (fresh _ _ (at-control-block .control-block .ensures)) (c .before .block .given .1),
-    )
+    let start = c .before .before .before .before .before .before in
+    asks start _ _ (begin (entry start) (stage start)) (c .control-block .result) (start .args .storage .now)
+    (c .control-block .last .1 .0) (fresh _ _ (c .control-block .ensures))
+
+returns : tie.Need-returns
+unfolding storeControl block
+returns c =
+    let asked = block (c .before .before .before .before .before) in
+    ended-with (asked .start .args .call .guest) (c .ending .result) asked (c .ending .ensures)
+    (c .before .enum-told .given .1)
 
 -- steps 3 and 4
-abbrev operand : (c : tie.After-known-told2)
-    → let at-block = c .before .before .before .before .before .before .before .before .before .before in
-    let start = at-block .before .before .before .before .before .before .before .before .before .before in
-    Here start
+abbrev operand : tie.After-after → Asked entry stage
 unfolding storeControl block
 operand c =
-    let at-after = c .before .before .before in
-    let at-word-operand = at-after .before .before .before in
-    let at-known-told = at-word-operand .before .before .before in
-    let at-slice-known =
-    at-known-told .before .before .before .before .before .before .before .before .before .before in
-    let s = at-slice-known .before .args .storage .now in
-    let ks = at-word-operand .word-operand .last .1 .0 in (
-      _,
-      _,
-      _,
-      step (at-after .after .result) s ks _ _ (block at-known-told .3)
-          (waited (at-word-operand .word-operand .result) (at-after .after .result) _ s ks _ _
-          (at-after .after .ensures) (at-word-operand .word-operand .ensures)) (c .before .operand .given .1),
-    )
+    let call = c .before .before .before in
+    let found = call .before .before .before .before in
+    let here = given (block (found .before .before .before .before)) (found .block .given .1) in
+    asks-after (here .start) _ _ (here .runs) (call .word-operand .result) (c .after .result)
+    (here .start .args .storage .now) (call .word-operand .last .1 .0) (c .after .ensures)
+    (call .word-operand .ensures)
+
+returns-2 : tie.Need-returns-2
+unfolding storeControl block operand
+returns-2 c =
+    let asked = operand (c .before .before .before) in
+    ended-with (asked .start .args .call .guest) (c .ending2 .result) asked (c .ending2 .ensures)
+    (c .before .enum-told2 .given .1)
+
+abbrev address : tie.After-register-count → Reached entry stage
+unfolding storeControl block operand
+address c =
+    let found = c .before .before .before .before in
+    given (operand (found .before .before)) (found .operand .given .1)
 
 -- how many registers
-counted : (c : tie.After-register-count)
-    → let at-word-operand-arg2 = c .before .before .before .before .before .before .before .before .before .before in
-    let at-guest =
-    at-word-operand-arg2 .before .before .before .before .before .before .before .before .before .before in
-    let start = at-guest .before .before .before in
-    let call = start .args .call in c .register-count .result ≡ registerCount (r1 call) (r3 call)
-counted c =
-    let at-r1 = c .before .before in
-    simp (at-r1 .r1 .ensures, c .before .r2 .ensures) at (c .register-count .ensures .0)
+counted : (c : tie.After-register-count) → c .register-count .result ≡ wanted (address c .start)
+unfolding storeControl block operand address
+counted c = simp (c .before .before .r1 .ensures, c .before .r2 .ensures) at (c .register-count .ensures .0)
 
 -- step 5: the registers
-abbrev registers : (c : tie.After-known-told3)
-    → let at-r2 = c .before .before .before .before .before .before .before .before .before .before in
-    let at-word-operand-arg = at-r2 .before .before .before .before .before .before .before .before .before .before in
-    let at-slice-known2 =
-    at-word-operand-arg .before .before .before .before .before .before .before .before .before .before in
-    let start = at-slice-known2 .before .before in
-    Here start
-unfolding storeControl block operand
+abbrev number : tie.After-after2 → tie.After-register-count
+number c = c .before .before .before .before .before .before
+
+abbrev registers : tie.After-after2 → AskedWords entry stage
+unfolding storeControl block operand address
 registers c =
-    let at-after2 = c .before .before .before in
-    let at-virtual-registers = at-after2 .before .before .before in
-    let at-register-count = at-virtual-registers .before .before .before in
-    let at-r1 = at-register-count .before .before in
-    let at-known-told = at-r1 .before .before .before .before .before .before .before .before .before .before in
-    let at-slice-known =
-    at-known-told .before .before .before .before .before .before .before .before .before .before in
-    let call = at-slice-known .before .args .call in
-    let f = simp (counted at-register-count, at-r1 .r1 .ensures) at
-    (at-virtual-registers .virtual-registers .ensures .0) in (
-      _,
-      _,
-      _,
-      has-words _ _ (registerCount (r1 call) (r3 call)) (at-virtual-registers .virtual-registers .result)
-          (at-after2 .after2 .result) (at-slice-known .before .args .storage .now)
-          (at-virtual-registers .virtual-registers .last .1 .0) (operand (at-r1 .before) .3) f
-          (at-after2 .after2 .ensures) (c .before .last .given .1),
-    )
+    let call = c .before .before .before in
+    let here = address (number c) in
+    asks-words (here .start) _ _ (here .runs) (wanted (here .start)) (call .virtual-registers .result)
+    (c .after2 .result) (here .start .args .storage .now) (call .virtual-registers .last .1 .0) (c .after2 .ensures)
+    (simp (counted (number c), number c .before .before .r1 .ensures) at (call .virtual-registers .ensures .0))
+
+same-length-6 : tie.Need-same-length-6
+unfolding storeControl block operand address
+same-length-6 c =
+    let at = c .before .before .before in
+    at .before .before .before .virtual-registers .kept .1 .0 ∙ reached-keys (address (number at))
+
+returns-3 : tie.Need-returns-3
+unfolding storeControl block operand address registers
+returns-3 c =
+    let asked = registers (c .before .before .before) in
+    ended-without (asked .start .args .call .guest) (c .ending3 .result) asked (c .ending3 .ensures)
+    (c .before .enum-told3 .given .1)
 
 -- and the operand words
-abbrev words : (c : tie.After-known-told4)
-    → let at-last = c .before .before .before .before .before .before .before .before .before .before in
-    let at-r1 = at-last .before .before .before .before .before .before .before .before .before .before in
-    let at-known-told = at-r1 .before .before .before .before .before .before .before .before .before .before in
-    let at-slice-known =
-    at-known-told .before .before .before .before .before .before .before .before .before .before in
-    Here (at-slice-known .before)
-unfolding storeControl block operand registers
-words c =
-    let at-after3 = c .before .before .before in
-    let at-operand-words = at-after3 .before .before .before in
-    let at-known-told3 = at-operand-words .before .before .before in
-    let at-register-count = at-known-told3 .before .before .before .before .before .before .before .before .before in
-    let at-word-operand-arg2 =
-    at-register-count .before .before .before .before .before .before .before .before .before .before in
-    let at-guest =
-    at-word-operand-arg2 .before .before .before .before .before .before .before .before .before .before in
-    let start = at-guest .before .before .before in
-    let call = start .args .call in
-    let f = simp (counted at-register-count) at (at-operand-words .operand-words .ensures .0) in (
-      _,
-      _,
-      _,
-      has-words _ _ (registerCount (r1 call) (r3 call)) (at-operand-words .operand-words .result)
-          (at-after3 .after3 .result) (start .args .storage .now)
-          (at-operand-words .operand-words .last .1 .0) (registers at-known-told3 .3) f
-          (at-after3 .after3 .ensures) (c .before .end .given .1),
-    )
+abbrev fetched : tie.After-after3 → tie.After-after2
+fetched c = c .before .before .before .before .before .before .before .before .before
 
--- as many stores as registers
+abbrev values : tie.After-after3 → Reached entry stage
+unfolding storeControl block operand address registers
+values c =
+    let found = c .before .before .before .before .before .before .before in
+    given-words (registers (fetched c)) (found .last .given .1)
+
+abbrev words : tie.After-after3 → AskedWords entry stage
+unfolding storeControl block operand address registers values
+words c =
+    let call = c .before .before .before in
+    let here = values c in
+    asks-words (here .start) _ _ (here .runs) (wanted (here .start)) (call .operand-words .result)
+    (c .after3 .result) (here .start .args .storage .now) (call .operand-words .last .1 .0) (c .after3 .ensures)
+    (simp (counted (number (fetched c))) at (call .operand-words .ensures .0))
+
+same-length-8 : tie.Need-same-length-8
+unfolding storeControl block operand address registers values
+same-length-8 c =
+    let at = c .before .before .before in
+    at .before .before .before .operand-words .kept .1 .0 ∙ reached-keys (values at)
+
+returns-4 : tie.Need-returns-4
+unfolding storeControl block operand address registers values words
+returns-4 c =
+    let asked = words (c .before .before .before) in
+    ended-without (asked .start .args .call .guest) (c .ending4 .result) asked (c .ending4 .ensures)
+    (c .before .enum-told4 .given .1)
+
+-- and only then the stores: as many as registers
 stored : (c : tie.After-register-count) (reals values : List ℕ) → length reals ≡ 16 → length values ≡ 16
     → let n = c .register-count .result in length (wordStores (take n reals) (take n values)) ≡ n
 stored c reals values h k =
@@ -136,142 +137,35 @@ stored c reals values h k =
     let f : length (take n values) ≡ n = simp length-take (omega arith) in
     stores-length (take n reals) (take n values) (e ∙ sym f) ∙ e
 
-returns : tie.Need-returns
-unfolding storeControl
-returns c =
-    let at-control-block = c .before .before .before .before .before in
-    let start = at-control-block .before .before .before .before .before .before in
-    let a = start .args in
-    let s = a .storage .now in
-    let ks = at-control-block .control-block .last .1 .0 in
-    ended-by (a .call .guest) (c .ending .result) s ks (at-control-block .control-block .result)
-    (c .ending .ensures) (c .before .enum-told .given .1)
-    (halts (at-control-block .control-block .result) s ks _ _
-    (begin (machine s (a .keys .now)) (storeControl (a .call)))
-    (fresh _ _ (at-control-block .control-block .ensures)) (c .before .enum-told .given .1))
+abbrev tested : tie.After-store-words → tie.After-after3
+tested c = c .before .before .before .before .before .before .before .before
 
-returns-2 : tie.Need-returns-2
-unfolding storeControl block
-returns-2 c =
-    let at-after = c .before .before .before in
-    let at-word-operand = at-after .before .before .before in
-    let at-known-told = at-word-operand .before .before .before in
-    let at-slice-known =
-    at-known-told .before .before .before .before .before .before .before .before .before .before in
-    let a = at-slice-known .before .args in
-    let s = a .storage .now in
-    let ks = at-word-operand .word-operand .last .1 .0 in
-    ended-by (a .call .guest) (c .ending2 .result) s ks (at-after .after .result) (c .ending2 .ensures)
-    (c .before .enum-told2 .given .1)
-    (halts (at-after .after .result) s ks _ _ (block at-known-told .3)
-    (waited (at-word-operand .word-operand .result) (at-after .after .result) _ s ks _ _ (at-after .after .ensures)
-    (at-word-operand .word-operand .ensures)) (c .before .enum-told2 .given .1))
-
-same-length-6 : tie.Need-same-length-6
-same-length-6 c =
-    let at-virtual-registers = c .before .before .before .before .before .before in
-    let at-slice-known4 =
-    at-virtual-registers .before .before .before .before .before .before .before .before .before .before in
-    let at-word-operand = at-slice-known4 .before .before in
-    let at-control-block = at-word-operand .before .before .before .before .before .before .before .before in
-    at-virtual-registers .virtual-registers .kept .1 .0 ∙ at-word-operand .word-operand .kept .1 .0
-    ∙ at-control-block .control-block .kept .1 .0
-
-returns-3 : tie.Need-returns-3
-unfolding storeControl block operand
-returns-3 c =
-    let at-after2 = c .before .before .before in
-    let at-virtual-registers = at-after2 .before .before .before in
-    let at-register-count = at-virtual-registers .before .before .before in
-    let at-r1 = at-register-count .before .before in
-    let at-known-told = at-r1 .before .before .before .before .before .before .before .before .before .before in
-    let at-slice-known =
-    at-known-told .before .before .before .before .before .before .before .before .before .before in
-    let a = at-slice-known .before .args in
-    let s = a .storage .now in
-    let ks = at-virtual-registers .virtual-registers .last .1 .0 in
-    let n = registerCount (r1 (a .call)) (r3 (a .call)) in
-    let f = simp (counted at-register-count, at-r1 .r1 .ensures) at
-    (at-virtual-registers .virtual-registers .ensures .0) in
-    ended-by (a .call .guest) (c .ending3 .result) s ks (at-after2 .after2 .result) (c .ending3 .ensures)
-    (c .before .enum-told3 .given .1)
-    (no-words _ _ n (at-virtual-registers .virtual-registers .result) (at-after2 .after2 .result) s ks
-    (operand (at-r1 .before) .3) f (at-after2 .after2 .ensures) (c .before .enum-told3 .given .1))
-
-same-length-8 : tie.Need-same-length-8
-same-length-8 c =
-    let at-operand-words = c .before .before .before .before .before .before in
-    let at-virtual-registers =
-    at-operand-words .before .before .before .before .before .before .before .before .before in
-    let at-slice-known4 =
-    at-virtual-registers .before .before .before .before .before .before .before .before .before .before in
-    let at-word-operand = at-slice-known4 .before .before in
-    let at-control-block = at-word-operand .before .before .before .before .before .before .before .before in
-    at-operand-words .operand-words .kept .1 .0 ∙ at-virtual-registers .virtual-registers .kept .1 .0
-    ∙ at-word-operand .word-operand .kept .1 .0 ∙ at-control-block .control-block .kept .1 .0
-
-returns-4 : tie.Need-returns-4
-unfolding storeControl block operand registers
-returns-4 c =
-    let at-after3 = c .before .before .before in
-    let at-operand-words = at-after3 .before .before .before in
-    let at-known-told3 = at-operand-words .before .before .before in
-    let at-register-count = at-known-told3 .before .before .before .before .before .before .before .before .before in
-    let at-word-operand-arg2 =
-    at-register-count .before .before .before .before .before .before .before .before .before .before in
-    let at-guest =
-    at-word-operand-arg2 .before .before .before .before .before .before .before .before .before .before in
-    let start = at-guest .before .before .before in
-    let a = start .args in
-    let s = a .storage .now in
-    let ks = at-operand-words .operand-words .last .1 .0 in
-    let n = registerCount (r1 (a .call)) (r3 (a .call)) in
-    let f = simp (counted at-register-count) at (at-operand-words .operand-words .ensures .0) in
-    ended-by (a .call .guest) (c .ending4 .result) s ks (at-after3 .after3 .result) (c .ending4 .ensures)
-    (c .before .enum-told4 .given .1)
-    (no-words _ _ n (at-operand-words .operand-words .result) (at-after3 .after3 .result) s ks
-    (registers at-known-told3 .3) f (at-after3 .after3 .ensures) (c .before .enum-told4 .given .1))
+abbrev reals : tie.After-store-words → Reached entry stage
+unfolding storeControl block operand address registers values words
+reals c = given-words (words (tested c)) (c .before .before .before .before .before .before .end .given .1)
 
 same-length-10 : tie.Need-same-length-10
+unfolding storeControl block operand address registers values words reals
 same-length-10 c =
-    let at-store-words = c .before .before .before .before .before in
-    let at-keys4 = at-store-words .before .before .before .before .before .before .before .before .before .before in
-    let at-virtual-registers =
-    at-keys4 .before .before .before .before .before .before .before .before .before .before in
-    let at-slice-known4 =
-    at-virtual-registers .before .before .before .before .before .before .before .before .before .before in
-    let at-word-operand = at-slice-known4 .before .before in
-    let at-control-block = at-word-operand .before .before .before .before .before .before .before .before in
-    at-store-words .store-words .kept .1 .0 ∙ at-keys4 .before .operand-words .kept .1 .0
-    ∙ at-virtual-registers .virtual-registers .kept .1 .0 ∙ at-word-operand .word-operand .kept .1 .0
-    ∙ at-control-block .control-block .kept .1 .0
+    let put = c .before .before .before .before .before in
+    put .store-words .kept .1 .0 ∙ reached-keys (reals put)
 
 returns-5 : tie.Need-returns-5
-unfolding storeControl block operand registers words
+unfolding storeControl block operand address registers values words reals
 returns-5 c =
-    let at-store-words = c .before .before .before .before .before in
-    let at-known-told4 = at-store-words .before .before .before .before .before in
-    let at-operand-words = at-known-told4 .before .before .before .before .before .before in
-    let at-virtual-registers =
-    at-operand-words .before .before .before .before .before .before .before .before .before in
-    let at-register-count = at-virtual-registers .before .before .before in
-    let at-word-operand-arg2 =
-    at-register-count .before .before .before .before .before .before .before .before .before .before in
-    let at-guest =
-    at-word-operand-arg2 .before .before .before .before .before .before .before .before .before .before in
-    let start = at-guest .before .before .before in
-    let a = start .args in
-    let n = registerCount (r1 (a .call)) (r3 (a .call)) in
-    let reals = at-operand-words .operand-words .result .words in
-    let values = at-virtual-registers .virtual-registers .result .words in
-    let e = counted at-register-count in
-    let k = stored at-register-count reals values (at-operand-words .operand-words .ensures .1)
-    (at-virtual-registers .virtual-registers .ensures .1) in
-    completes (a .call) (c .completed .result) (at-store-words .store-words .last .0)
-    (at-store-words .store-words .last .1 .0) 4 _ (words at-known-told4 .3)
-    (c .completed .ensures ∙ ap (completion (a .call) 4 (at-known-told4 .before .end .given .0 .1 .0))
-    (sym k ∙ ap (λ n. length (wordStores (take n reals) (take n values))) e))
-    (simp e at (at-store-words .store-words .ensures))
+    let put = c .before .before .before .before .before in
+    let at = tested put in
+    let here = reals put in
+    let to = at .before .before .before .operand-words in
+    let from = fetched at .before .before .before .virtual-registers in
+    let n = number (fetched at) in
+    let e = counted n in
+    completes (here .start .args .call) (c .completed .result) (put .store-words .last .0)
+    (put .store-words .last .1 .0) 4 _ (here .runs)
+    (c .completed .ensures ∙ ap (completion (here .start .args .call) 4 (here .count))
+    (sym (stored n (to .result .words) (from .result .words) (to .ensures .1) (from .ensures .1))
+    ∙ ap (λ n. length (wordStores (take n (to .result .words)) (take n (from .result .words)))) e))
+    (simp e at (put .store-words .ensures))
 
 pub store-control-spec : {M : Type 1} → statement M
 store-control-spec =

@@ -1,102 +1,61 @@
+use Rattle.rules.specs.Machine.{Machine}
+use Rattle.rules.specs.Steps.{Steps}
+use Rattle.rules.specs.Call.{Completion}
 use Rattle.rules.specs.SetSystemMask.{setSystemMask}
 use Rattle.storage.specs.Answers.{machine}
-use Rattle.storage.proofs.Laws.{Left, begin, fresh, waited, step, halts, ended-by, completes}
+use Rattle.storage.proofs.Laws.{begin, fresh, completes}
+use Rattle.storage.proofs.Stages.{Asked, asks, asks-after, given, ended-with}
 use borrow.Author.Needs.{needs}
 use Rattle.masks.proofs.ssm.set_system_mask.Statement.{statement}
 use Rattle.masks.proofs.ssm.set_system_mask.Tie as tie
 
-abbrev Here : tie.Start → Type 0
-Here c = let a = c .args in Left (machine (a .storage .now) (a .keys .now)) (setSystemMask (a .call))
+abbrev entry : tie.Start → Machine
+entry c = machine (c .args .storage .now) (c .args .keys .now)
+
+abbrev stage : tie.Start → Steps Completion
+stage c = setSystemMask (c .args .call)
 
 -- steps 1 to 6
-abbrev operand : (c : tie.After-known-told)
-    → let at-slice-known = c .before .before .before .before .before .before .before .before .before .before in
-    let at-slice-known = at-slice-known in
-    Here (at-slice-known .before)
+abbrev operand : tie.After-mask-operand → Asked entry stage
 unfolding setSystemMask
 operand c =
-    let at-mask-operand = c .before .before .before .before .before in
-    let at-mask-operand = at-mask-operand in
-    let start = at-mask-operand .before .before .before .before .before .before in
-    let a = start .args in
-    let m = machine (a .storage .now) (a .keys .now) in (
-      _,
-      _,
-      _,
-      step (at-mask-operand .mask-operand .result) (a .storage .now) (at-mask-operand .mask-operand .last .1 .0) _ _
-          (begin m (setSystemMask (a .call)))
-          (fresh _ _ (at-mask-operand .mask-operand .ensures)) (c .before .operand .given .1),
-    )
-
--- steps 7 to 9
-abbrev target : (c : tie.After-known-told2)
-    → let at-operand = c .before .before .before .before .before .before .before .before .before .before in
-    let at-operand = at-operand in
-    let start = at-operand .before .before .before .before .before .before .before .before .before .before in
-    Here start
-unfolding setSystemMask operand
-target c =
-    let at-after = c .before .before .before in
-    let at-after = at-after in
-    let at-mask-target = at-after .before .before .before in
-    let at-known-told = at-mask-target .before .before .before in
-    let at-slice-known =
-    at-known-told .before .before .before .before .before .before .before .before .before .before in
-    let s = at-slice-known .before .args .storage .now in
-    let ks = at-mask-target .mask-target .last .1 .0 in (
-      _,
-      _,
-      _,
-      step (at-after .after .result) s ks _ _ (operand at-known-told .3)
-          (waited (at-mask-target .mask-target .result) (at-after .after .result) _ s ks _ _
-          (at-after .after .ensures) (at-mask-target .mask-target .ensures)) (c .before .target .given .1),
-    )
+    let start = c .before .before .before .before .before .before in
+    asks start _ _ (begin (entry start) (stage start)) (c .mask-operand .result) (start .args .storage .now)
+    (c .mask-operand .last .1 .0) (fresh _ _ (c .mask-operand .ensures))
 
 returns : tie.Need-returns
-unfolding setSystemMask
+unfolding setSystemMask operand
 returns c =
-    let at-mask-operand = c .before .before .before .before .before in
-    let at-mask-operand = at-mask-operand in
-    let start = at-mask-operand .before .before .before .before .before .before in
-    let a = start .args in
-    let s = a .storage .now in
-    let ks = at-mask-operand .mask-operand .last .1 .0 in
-    ended-by (a .call .guest) (c .ending .result) s ks (at-mask-operand .mask-operand .result) (c .ending .ensures)
+    let asked = operand (c .before .before .before .before .before) in
+    ended-with (asked .start .args .call .guest) (c .ending .result) asked (c .ending .ensures)
     (c .before .enum-told .given .1)
-    (halts (at-mask-operand .mask-operand .result) s ks _ _
-    (begin (machine s (a .keys .now)) (setSystemMask (a .call)))
-    (fresh _ _ (at-mask-operand .mask-operand .ensures)) (c .before .enum-told .given .1))
+
+-- steps 7 to 9
+abbrev target : tie.After-after → Asked entry stage
+unfolding setSystemMask operand
+target c =
+    let call = c .before .before .before in
+    let found = call .before .before .before .before in
+    let here = given (operand (found .before .before .before .before)) (found .operand .given .1) in
+    asks-after (here .start) _ _ (here .runs) (call .mask-target .result) (c .after .result)
+    (here .start .args .storage .now) (call .mask-target .last .1 .0) (c .after .ensures) (call .mask-target .ensures)
 
 returns-2 : tie.Need-returns-2
-unfolding setSystemMask operand
+unfolding setSystemMask operand target
 returns-2 c =
-    let at-after = c .before .before .before in
-    let at-after = at-after in
-    let at-mask-target = at-after .before .before .before in
-    let at-known-told = at-mask-target .before .before .before in
-    let at-slice-known =
-    at-known-told .before .before .before .before .before .before .before .before .before .before in
-    let a = at-slice-known .before .args in
-    let s = a .storage .now in
-    let ks = at-mask-target .mask-target .last .1 .0 in
-    ended-by (a .call .guest) (c .ending2 .result) s ks (at-after .after .result) (c .ending2 .ensures)
+    let asked = target (c .before .before .before) in
+    ended-with (asked .start .args .call .guest) (c .ending2 .result) asked (c .ending2 .ensures)
     (c .before .enum-told2 .given .1)
-    (halts (at-after .after .result) s ks _ _ (operand at-known-told .3)
-    (waited (at-mask-target .mask-target .result) (at-after .after .result) _ s ks _ _ (at-after .after .ensures)
-    (at-mask-target .mask-target .ensures)) (c .before .enum-told2 .given .1))
 
+-- step 10
 returns-3 : tie.Need-returns-3
 unfolding setSystemMask operand target
 returns-3 c =
-    let at-put-mask = c .before .before .before .before .before in
-    let at-put-mask = at-put-mask in
-    let at-known-told2 = at-put-mask .before .before .before in
-    let at-operand = at-known-told2 .before .before .before .before .before .before .before .before .before .before in
-    let start = at-operand .before .before .before .before .before .before .before .before .before .before in
-    let a = start .args in
-    completes (a .call) (c .completed .result) (at-put-mask .put-mask .last .0)
-    (at-put-mask .put-mask .last .1 .0) 4 _ (target at-known-told2 .3)
-    (c .completed .ensures) (at-put-mask .put-mask .ensures)
+    let put = c .before .before .before .before .before in
+    let found = put .before .before .before .before in
+    let here = given (target (found .before .before)) (found .target .given .1) in
+    completes (here .start .args .call) (c .completed .result) (put .put-mask .last .0) (put .put-mask .last .1 .0) 4 _
+    (here .runs) (c .completed .ensures) (put .put-mask .ensures)
 
 pub set-system-mask-spec : {M : Type 1} → statement M
 set-system-mask-spec =

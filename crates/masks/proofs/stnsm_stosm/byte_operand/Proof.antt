@@ -1,61 +1,46 @@
+use Prim.Native.Nat.{ℕ}
+use Rattle.rules.specs.Machine.{Machine}
+use Rattle.rules.specs.Steps.{Steps}
 use Rattle.rules.specs.StoreThenMask.{byteOperand}
 use Rattle.storage.specs.Answers.{machine}
-use Rattle.storage.proofs.Laws.{Left, begin, fresh, waited, refuses, step, hands, last}
+use Rattle.storage.proofs.Laws.{begin, fresh, refuses, last-after}
+use Rattle.storage.proofs.Stages.{Asked, asks, given, handed}
 use borrow.Author.Needs.{needs}
 use Rattle.masks.proofs.stnsm_stosm.byte_operand.Statement.{statement}
 use Rattle.masks.proofs.stnsm_stosm.byte_operand.Tie as tie
 
--- step 5: the second halfword, or a refusal
-abbrev second : (c : tie.After-known-told)
-    → let start = c .before .before .before .before .before .before .before .before .before .before in
-    let start = start in
-    let a = start .args in Left (machine (a .storage .now) (a .keys .now)) (byteOperand (a .guest))
+abbrev entry : tie.Start → Machine
+entry c = machine (c .args .storage .now) (c .args .keys .now)
+
+abbrev stage : tie.Start → Steps ℕ
+stage c = byteOperand (c .args .guest)
+
+-- step 5: the second halfword, every ending of which refuses
+abbrev second : tie.After-or-refuse → Asked entry stage
 unfolding byteOperand
 second c =
-    let at-or-refuse = c .before .before .before in
-    let at-or-refuse = at-or-refuse in
-    let at-second-halfword = at-or-refuse .before .before .before in
-    let start = at-second-halfword .before .before .before .before in
-    let a = start .args in
-    let s = a .storage .now in
-    let ks = at-second-halfword .second-halfword .last .1 .0 in (
-      _,
-      _,
-      _,
-      step (at-or-refuse .or-refuse .result) s ks _ _ (begin (machine s (a .keys .now)) (byteOperand (a .guest)))
-          (fresh _ _ (refuses (at-second-halfword .second-halfword .result)
-          (at-or-refuse .or-refuse .result) s ks _ _ (at-or-refuse .or-refuse .ensures)
-          (at-second-halfword .second-halfword .ensures)))
-          (c .before .second .given .1),
-    )
+    let call = c .before .before .before in
+    let start = call .before .before .before .before in
+    let s = start .args .storage .now in
+    let ks = call .second-halfword .last .1 .0 in
+    asks start _ _ (begin (entry start) (stage start)) (c .or-refuse .result) s ks
+    (fresh _ _ (refuses (call .second-halfword .result) (c .or-refuse .result) s ks _ _ (c .or-refuse .ensures)
+    (call .second-halfword .ensures)))
 
 returns : tie.Need-returns
-unfolding byteOperand
-returns c =
-    let at-or-refuse = c .before .before in
-    let at-or-refuse = at-or-refuse in
-    let at-second-halfword = at-or-refuse .before .before .before in
-    let start = at-second-halfword .before .before .before .before in
-    let a = start .args in
-    let s = a .storage .now in
-    let ks = at-second-halfword .second-halfword .last .1 .0 in
-    hands (at-or-refuse .or-refuse .result) s ks _ _ (begin (machine s (a .keys .now)) (byteOperand (a .guest)))
-    (fresh _ _ (refuses (at-second-halfword .second-halfword .result) (at-or-refuse .or-refuse .result) s ks _ _
-    (at-or-refuse .or-refuse .ensures) (at-second-halfword .second-halfword .ensures)))
-    (c .enum-told .given .1)
+unfolding byteOperand second
+returns c = handed (second (c .before .before)) (c .enum-told .given .1)
 
+-- step 6: the store test
 returns-2 : tie.Need-returns-2
 unfolding byteOperand second
 returns-2 c =
-    let at-store-test = c .before .before .before in
-    let at-store-test = at-store-test in
-    let at-known-told = at-store-test .before .before .before in
-    let start = at-known-told .before .before .before .before .before .before .before .before .before .before in
-    let s = start .args .storage .now in
-    let ks = at-store-test .store-test .last .1 .0 in
-    let f = simp (at-store-test .before .effective .ensures) at (at-store-test .store-test .ensures) in
-    last (c .after .result) s ks _ (second at-known-told .3)
-    (waited (at-store-test .store-test .result) (c .after .result) _ s ks _ _ (c .after .ensures) f)
+    let call = c .before .before .before in
+    let found = call .before .before .before .before in
+    let here = given (second (found .before .before)) (found .second .given .1) in
+    last-after _ (here .runs) (call .store-test .result) (c .after .result) (here .start .args .storage .now)
+    (call .store-test .last .1 .0) (c .after .ensures)
+    (simp (call .before .effective .ensures) at (call .store-test .ensures))
 
 pub byte-operand-spec : {M : Type 1} → statement M
 byte-operand-spec =

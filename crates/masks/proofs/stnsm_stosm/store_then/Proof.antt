@@ -1,300 +1,187 @@
-use mathlib.Core.Path.{_≡_, sym, ap, _∙_}
+use mathlib.Core.Path.{_≡_, ap, _∙_}
 use mathlib.Core.Bool.{not}
-use Rattle.rules.specs.Machine.{perform, store}
-use Rattle.rules.specs.Masks.{maskIn, extendedIn}
-use Rattle.rules.specs.ControlFields.{pending, addressIn}
-use Rattle.rules.specs.Call.{immediate}
-use Rattle.rules.specs.StoreThenMask.{newMask, needsExpanded, storeThen}
+use Rattle.rules.specs.Machine.{Machine, perform, store}
+use Rattle.rules.specs.Steps.{Steps}
+use Rattle.rules.specs.Masks.{maskIn}
+use Rattle.rules.specs.ControlFields.{addressIn}
+use Rattle.rules.specs.Call.{immediate, Completion}
+use Rattle.rules.specs.StoreThenMask.{newMask, storeThen}
 use Rattle.storage.specs.Answers.{machine}
-use Rattle.storage.proofs.Laws.{Left, begin, fresh, waited, pass, stops, step, halts, ended-by, stopped-by, completes}
+use Rattle.storage.proofs.Laws.{begin, fresh, completes}
+use Rattle.storage.proofs.Stages.{
+  Reached,
+  Asked,
+  Tested,
+  asks,
+  asks-after,
+  given,
+  tests,
+  passed,
+  reached-keys,
+  ended-with,
+  stopped-with,
+}
 use borrow.Author.Needs.{needs}
 use Rattle.masks.proofs.stnsm_stosm.store_then.Statement.{statement}
 use Rattle.masks.proofs.stnsm_stosm.store_then.Tie as tie
 
-abbrev Here : tie.Start → Type 0
-Here c = let a = c .args in Left (machine (a .storage .now) (a .keys .now)) (storeThen (a .change) (a .call))
+abbrev entry : tie.Start → Machine
+entry c = machine (c .args .storage .now) (c .args .keys .now)
 
--- step 1 passed
-abbrev assisted : (c : tie.Else1)
-    → let start = c .before .before .before .before .before in
-    let start = start in
-    Here start
+abbrev stage : tie.Start → Steps Completion
+stage c = storeThen (c .args .change) (c .args .call)
+
+-- step 1
+abbrev assisted : tie.After-assists-control → Tested entry stage
 unfolding storeThen
 assisted c =
-    let start = c .before .before .before .before .before in
-    let start = start in
-    let a = start .args in
-    let m = machine (a .storage .now) (a .keys .now) in (
-      _,
-      _,
-      _,
-      pass _ _ _ (begin m (storeThen (a .change) (a .call)))
-          (ap not (sym (c .before .assists-control .ensures)) ∙ c .if1 .left),
-    )
-
--- step 2: MICVPSW
-abbrev field : (c : tie.After-known-told)
-    → let at-guest = c .before .before .before .before .before .before .before .before .before .before in
-    let at-guest = at-guest in
-    let start = at-guest .before .before .before in
-    Here start
-unfolding storeThen assisted
-field c =
-    let at-micvpsw = c .before .before .before .before .before in
-    let at-micvpsw = at-micvpsw in
-    let at-if1 = at-micvpsw .before .before .before in
-    let start = at-if1 .before .before .before .before .before in (
-      _,
-      _,
-      _,
-      step (at-micvpsw .micvpsw .result) (start .args .storage .now) (at-micvpsw .micvpsw .last .1 .0) _ _
-          (assisted at-if1 .3)
-          (fresh _ _ (at-micvpsw .micvpsw .ensures)) (c .before .field .given .1),
-    )
-
--- step 3: the first halfword of the virtual PSW
-abbrev halfword : (c : tie.After-known-told2)
-    → let at-known-told = c .before .before .before .before .before .before .before .before .before .before in
-    let at-known-told = at-known-told in
-    let at-guest = at-known-told .before .before .before .before .before .before .before .before .before .before in
-    let start = at-guest .before .before .before in
-    Here start
-unfolding storeThen assisted field
-halfword c =
-    let at-after = c .before .before .before in
-    let at-after = at-after in
-    let at-control-halfword = at-after .before .before .before in
-    let at-address-in = at-control-halfword .before .before .before in
-    let at-assists-control =
-    at-address-in .before .before .before .before .before .before .before .before .before .before in
-    let start = at-assists-control .before .before .before .before in
-    let s = start .args .storage .now in
-    let ks = at-control-halfword .control-halfword .last .1 .0 in
-    let f = simp (at-address-in .address-in .ensures) at (at-control-halfword .control-halfword .ensures) in (
-      _,
-      _,
-      _,
-      step (at-after .after .result) s ks _ _ (field (at-address-in .before) .3)
-          (waited (at-control-halfword .control-halfword .result) (at-after .after .result) _ s ks _ _
-          (at-after .after .ensures) f) (c .before .halfword .given .1),
-    )
-
--- step 4
-changed : (c : tie.After-new-mask)
-    → let at-halfword = c .before .before .before .before in
-    let at-halfword = at-halfword in
-    let at-field = at-halfword .before .before .before .before .before .before .before .before .before .before in
-    let at-slice-known2 = at-field .before .before .before .before .before .before .before .before .before .before in
-    let start = at-slice-known2 .before .before in
-    let a = start .args in c .new-mask .result ≡ newMask (a .change) (maskIn (at-halfword .halfword .given .0 .0))
-    (immediate (a .call))
-changed c =
-    let at-mask-in = c .before .before in
-    simp (at-mask-in .mask-in .ensures .0, c .before .immediate .ensures) at (c .new-mask .ensures)
-
-tested : (c : tie.After-needs-expanded)
-    → let at-halfword = c .before .before .before .before .before .before .before in
-    let at-halfword = at-halfword in
-    let at-field = at-halfword .before .before .before .before .before .before .before .before .before .before in
-    let at-slice-known2 = at-field .before .before .before .before .before .before .before .before .before .before in
-    let start = at-slice-known2 .before .before in
-    let a = start .args in
-    let first = at-halfword .halfword .given .0 .0 in
-    let old = maskIn first in
-    c .needs-expanded .result
-    ≡ needsExpanded (a .change) (extendedIn first) (pending (at-field .field .given .0 .0)) old
-    (newMask (a .change) old (immediate (a .call)))
-tested c =
-    let at-is-extended = c .before .before in
-    let at-is-extended = at-is-extended in
-    let at-mask-in = at-is-extended .before .before .before in
-    simp (
-      at-is-extended .is-extended .ensures,
-      c .before .is-pending .ensures,
-      at-mask-in .mask-in .ensures .0,
-      changed (at-is-extended .before),
-    ) at (c .needs-expanded .ensures)
-
-abbrev passed : (c : tie.Else2)
-    → let at-after = c .before .before .before .before .before .before .before .before .before .before in
-    let at-after = at-after in
-    let at-slice-known3 = at-after .before .before .before .before .before .before .before .before .before .before in
-    let start = at-slice-known3 .before .before .before .before .before .before .before .before .before .before in
-    Here start
-unfolding storeThen assisted field halfword
-passed c =
-    let at-known-told2 = c .before .before .before .before .before .before .before in
-    let at-known-told2 = at-known-told2 in
-    (_, _, _, pass _ _ _ (halfword at-known-told2 .3) (sym (tested (c .before)) ∙ c .if2 .left))
-
--- steps 5 and 6: the operand
-abbrev operand : (c : tie.After-known-told3)
-    → let at-needs-expanded = c .before .before .before .before .before .before .before .before .before .before in
-    let at-needs-expanded = at-needs-expanded in
-    let at-slice-known4 =
-    at-needs-expanded .before .before .before .before .before .before .before .before .before .before in
-    let at-keys = at-slice-known4 .before .before .before .before .before .before .before .before .before .before in
-    let start = at-keys .before .before .before .before .before .before .before .before .before in
-    Here start
-unfolding storeThen assisted field halfword passed
-operand c =
-    let at-after2 = c .before .before .before in
-    let at-after2 = at-after2 in
-    let at-byte-operand = at-after2 .before .before .before in
-    let at-if2 = at-byte-operand .before .before .before in
-    let at-after = at-if2 .before .before .before .before .before .before .before .before .before .before in
-    let at-slice-known3 = at-after .before .before .before .before .before .before .before .before .before .before in
-    let start = at-slice-known3 .before .before .before .before .before .before .before .before .before .before in
-    let s = start .args .storage .now in
-    let ks = at-byte-operand .byte-operand .last .1 .0 in (
-      _,
-      _,
-      _,
-      step (at-after2 .after2 .result) s ks _ _ (passed at-if2 .3)
-          (waited (at-byte-operand .byte-operand .result) (at-after2 .after2 .result) _ s ks _ _
-          (at-after2 .after2 .ensures) (at-byte-operand .byte-operand .ensures)) (c .before .operand .given .1),
-    )
+    let start = c .before .before .before .before in
+    tests start _ _ _ (begin (entry start) (stage start)) (not (c .assists-control .result))
+    (ap not (c .assists-control .ensures))
 
 returns : tie.Need-returns
-unfolding storeThen
+unfolding storeThen assisted
 returns c =
-    let at-assists-control = c .before .before in
-    let at-assists-control = at-assists-control in
-    let start = at-assists-control .before .before .before .before in
-    let a = start .args in
-    let m = machine (a .storage .now) (a .keys .now) in
-    stopped-by (a .call .guest) (c .ending .result) (a .storage .now) (a .keys .now) (c .ending .ensures)
-    (stops _ _ _ (begin m (storeThen (a .change) (a .call)))
-    (ap not (sym (at-assists-control .assists-control .ensures)) ∙ c .before .if1 .taken))
+    let test = assisted (c .before .before) in
+    stopped-with (test .start .args .call .guest) (c .ending .result) test (c .ending .ensures) (c .before .if1 .taken)
+
+-- step 2: MICVPSW
+abbrev field : tie.After-micblok-word → Asked entry stage
+unfolding storeThen assisted
+field c =
+    let on = c .before .before .before in
+    let here = passed (assisted (on .before)) (on .if1 .left) in
+    asks (here .start) _ _ (here .runs) (c .micblok-word .result) (here .start .args .storage .now)
+    (c .micblok-word .last .1 .0) (fresh _ _ (c .micblok-word .ensures))
 
 returns-2 : tie.Need-returns-2
-unfolding storeThen assisted
+unfolding storeThen assisted field
 returns-2 c =
-    let at-micvpsw = c .before .before .before .before .before in
-    let at-micvpsw = at-micvpsw in
-    let at-if1 = at-micvpsw .before .before .before in
-    let start = at-if1 .before .before .before .before .before in
-    let a = start .args in
-    let s = a .storage .now in
-    let ks = at-micvpsw .micvpsw .last .1 .0 in
-    ended-by (a .call .guest) (c .ending2 .result) s ks (at-micvpsw .micvpsw .result) (c .ending2 .ensures)
+    let asked = field (c .before .before .before .before .before) in
+    ended-with (asked .start .args .call .guest) (c .ending2 .result) asked (c .ending2 .ensures)
     (c .before .enum-told .given .1)
-    (halts (at-micvpsw .micvpsw .result) s ks _ _ (assisted at-if1 .3) (fresh _ _ (at-micvpsw .micvpsw .ensures))
-    (c .before .enum-told .given .1))
+
+-- step 3: the first halfword of the virtual PSW
+abbrev address : tie.After-after → tie.After-address-in
+address c = c .before .before .before .before .before .before
+
+abbrev halfword : tie.After-after → Asked entry stage
+unfolding storeThen assisted field
+halfword c =
+    let call = c .before .before .before in
+    let at = address c in
+    let found = at .before .before in
+    let here = given (field (found .before .before .before .before)) (found .field .given .1) in
+    asks-after (here .start) _ _ (here .runs) (call .control-halfword .result) (c .after .result)
+    (here .start .args .storage .now) (call .control-halfword .last .1 .0) (c .after .ensures)
+    (simp (at .address-in .ensures) at (call .control-halfword .ensures))
 
 returns-3 : tie.Need-returns-3
-unfolding storeThen assisted field
+unfolding storeThen assisted field halfword
 returns-3 c =
-    let at-after = c .before .before .before in
-    let at-after = at-after in
-    let at-control-halfword = at-after .before .before .before in
-    let at-address-in = at-control-halfword .before .before .before in
-    let at-assists-control =
-    at-address-in .before .before .before .before .before .before .before .before .before .before in
-    let start = at-assists-control .before .before .before .before in
-    let a = start .args in
-    let s = a .storage .now in
-    let ks = at-control-halfword .control-halfword .last .1 .0 in
-    let f = simp (at-address-in .address-in .ensures) at (at-control-halfword .control-halfword .ensures) in
-    ended-by (a .call .guest) (c .ending3 .result) s ks (at-after .after .result) (c .ending3 .ensures)
+    let asked = halfword (c .before .before .before) in
+    ended-with (asked .start .args .call .guest) (c .ending3 .result) asked (c .ending3 .ensures)
     (c .before .enum-told2 .given .1)
-    (halts (at-after .after .result) s ks _ _ (field (at-address-in .before) .3)
-    (waited (at-control-halfword .control-halfword .result) (at-after .after .result) _ s ks _ _
-    (at-after .after .ensures) f) (c .before .enum-told2 .given .1))
+
+-- step 4
+abbrev first : tie.After-known-told2 → Reached entry stage
+unfolding storeThen assisted field halfword
+first c = given (halfword (c .before .before .before)) (c .before .halfword .given .1)
+
+abbrev masked : tie.After-new-mask → tie.After-mask-in
+masked c = c .before .before
+
+changed : (c : tie.After-new-mask)
+    → let found = masked c .before .before in
+    let a = first (masked c .before) .start .args in
+    c .new-mask .result ≡ newMask (a .change) (maskIn (found .halfword .given .0 .0)) (immediate (a .call))
+unfolding storeThen assisted field halfword first
+changed c =
+    simp (masked c .mask-in .ensures .0, c .before .immediate .ensures) at (c .new-mask .ensures)
+
+abbrev expands : tie.After-needs-expanded → Tested entry stage
+unfolding storeThen assisted field halfword first
+expands c =
+    let mode = c .before .before in
+    let old = masked (mode .before) in
+    let here = first (old .before) in
+    tests (here .start) _ _ _ (here .runs) (c .needs-expanded .result)
+    (simp (
+      mode .is-extended .ensures,
+      c .before .is-pending .ensures,
+      old .mask-in .ensures .0,
+      changed (mode .before),
+    ) at (c .needs-expanded .ensures))
 
 same-length-6 : tie.Need-same-length-6
-same-length-6 c =
-    let at-halfword = c .before .before .before .before .before .before .before .before .before .before in
-    let at-halfword = at-halfword in
-    let at-control-halfword = at-halfword .before .before .before .before .before in
-    let at-micvpsw = at-control-halfword .before .before .before .before .before .before .before .before .before in
-    at-control-halfword .control-halfword .kept .1 .0 ∙ at-micvpsw .micvpsw .kept .1 .0
+unfolding storeThen assisted field halfword first
+same-length-6 c = reached-keys (first (c .before .before .before .before .before .before .before .before .before))
 
 returns-4 : tie.Need-returns-4
-unfolding storeThen assisted field halfword
+unfolding storeThen assisted field halfword first expands
 returns-4 c =
-    let at-if2 = c .before .before in
-    let at-if2 = at-if2 in
-    let at-known-told2 = at-if2 .before .before .before .before .before .before .before in
-    let at-control-halfword = at-known-told2 .before .before .before .before .before .before in
-    let at-micvpsw-arg2 =
-    at-control-halfword .before .before .before .before .before .before .before .before .before .before in
-    let start = at-micvpsw-arg2 .before .before .before .before .before .before .before in
-    let a = start .args in
-    stopped-by (a .call .guest) (c .ending4 .result) (a .storage .now)
-    (at-control-halfword .control-halfword .last .1 .0)
-    (simp (c .before .expanded .ensures) at (c .ending4 .ensures))
-    (stops _ _ _ (halfword at-known-told2 .3) (sym (tested (at-if2 .before)) ∙ at-if2 .if2 .taken))
+    let test = c .before .before in
+    let asked = expands (test .before) in
+    stopped-with (asked .start .args .call .guest) (c .ending4 .result) asked
+    (simp (c .before .expanded .ensures) at (c .ending4 .ensures)) (test .if2 .taken)
+
+-- steps 5 and 6: the operand
+abbrev operand : tie.After-after2 → Asked entry stage
+unfolding storeThen assisted field halfword first expands
+operand c =
+    let call = c .before .before .before in
+    let test = call .before .before .before in
+    let here = passed (expands (test .before)) (test .if2 .left) in
+    asks-after (here .start) _ _ (here .runs) (call .byte-operand .result) (c .after2 .result)
+    (here .start .args .storage .now) (call .byte-operand .last .1 .0) (c .after2 .ensures)
+    (call .byte-operand .ensures)
 
 same-length-8 : tie.Need-same-length-8
+unfolding storeThen assisted field halfword first
 same-length-8 c =
-    let at-byte-operand = c .before .before .before .before .before .before in
-    let at-byte-operand = at-byte-operand in
-    let at-known-told2 =
-    at-byte-operand .before .before .before .before .before .before .before .before .before .before in
-    let at-control-halfword = at-known-told2 .before .before .before .before .before .before in
-    let at-micvpsw = at-control-halfword .before .before .before .before .before .before .before .before .before in
-    at-byte-operand .byte-operand .kept .1 .0 ∙ at-control-halfword .control-halfword .kept .1 .0
-    ∙ at-micvpsw .micvpsw .kept .1 .0
+    let call = c .before .before .before .before .before .before in
+    let found = call .before .before .before .before .before .before .before .before .before .before in
+    call .byte-operand .kept .1 .0 ∙ reached-keys (first found)
 
 returns-5 : tie.Need-returns-5
-unfolding storeThen assisted field halfword passed
+unfolding storeThen assisted field halfword first expands operand
 returns-5 c =
-    let at-after2 = c .before .before .before in
-    let at-after2 = at-after2 in
-    let at-byte-operand = at-after2 .before .before .before in
-    let at-if2 = at-byte-operand .before .before .before in
-    let at-after = at-if2 .before .before .before .before .before .before .before .before .before .before in
-    let at-slice-known3 = at-after .before .before .before .before .before .before .before .before .before .before in
-    let start = at-slice-known3 .before .before .before .before .before .before .before .before .before .before in
-    let a = start .args in
-    let s = a .storage .now in
-    let ks = at-byte-operand .byte-operand .last .1 .0 in
-    ended-by (a .call .guest) (c .ending5 .result) s ks (at-after2 .after2 .result) (c .ending5 .ensures)
+    let asked = operand (c .before .before .before) in
+    ended-with (asked .start .args .call .guest) (c .ending5 .result) asked (c .ending5 .ensures)
     (c .before .enum-told3 .given .1)
-    (halts (at-after2 .after2 .result) s ks _ _ (passed at-if2 .3)
-    (waited (at-byte-operand .byte-operand .result) (at-after2 .after2 .result) _ s ks _ _
-    (at-after2 .after2 .ensures) (at-byte-operand .byte-operand .ensures)) (c .before .enum-told3 .given .1))
+
+-- step 7: the old mask, then the new one
+abbrev stored : tie.After-put-mask → tie.After-store-byte
+stored c = c .before .before .before .before .before .before .before
+
+abbrev real : tie.After-store-byte → Reached entry stage
+unfolding storeThen assisted field halfword first expands operand
+real c =
+    let found = c .before .before .before .before in
+    given (operand (found .before .before)) (found .operand .given .1)
 
 same-length-10 : tie.Need-same-length-10
+unfolding storeThen assisted field halfword first expands operand real
 same-length-10 c =
-    let at-put-mask = c .before .before .before .before .before in
-    let at-put-mask = at-put-mask in
-    let at-store-byte = at-put-mask .before .before .before .before .before .before .before in
-    let at-byte-operand = at-store-byte .before .before .before .before .before .before .before .before .before in
-    let at-known-told2 =
-    at-byte-operand .before .before .before .before .before .before .before .before .before .before in
-    let at-control-halfword = at-known-told2 .before .before .before .before .before .before in
-    let at-micvpsw = at-control-halfword .before .before .before .before .before .before .before .before .before in
-    at-put-mask .put-mask .kept .1 .0 ∙ at-store-byte .store-byte .kept .1 .0
-    ∙ at-byte-operand .byte-operand .kept .1 .0 ∙ at-control-halfword .control-halfword .kept .1 .0
-    ∙ at-micvpsw .micvpsw .kept .1 .0
+    let put = c .before .before .before .before .before in
+    put .put-mask .kept .1 .0 ∙ stored put .store-byte .kept .1 .0 ∙ reached-keys (real (stored put))
 
 returns-6 : tie.Need-returns-6
-unfolding storeThen assisted field halfword passed operand
+unfolding storeThen assisted field halfword first expands operand real
 returns-6 c =
-    let at-put-mask = c .before .before .before .before .before in
-    let at-put-mask = at-put-mask in
-    let at-store-byte = at-put-mask .before .before .before .before .before .before .before in
-    let at-known-told3 = at-store-byte .before .before .before in
-    let at-needs-expanded =
-    at-known-told3 .before .before .before .before .before .before .before .before .before .before in
-    let at-new-mask = at-needs-expanded .before .before .before in
-    let at-mask-in = at-new-mask .before .before in
-    let at-halfword = at-mask-in .before .before in
-    let at-address-in = at-halfword .before .before .before .before .before .before .before .before in
-    let at-field = at-address-in .before .before in
-    let at-slice-known2 = at-field .before .before .before .before .before .before .before .before .before .before in
-    let start = at-slice-known2 .before .before in
-    let a = start .args in
-    let old = maskIn (at-halfword .halfword .given .0 .0) in
-    let new = store (addressIn (at-field .field .given .0 .0)) 1 (newMask (a .change) old (immediate (a .call))) in
-    let first = simp (at-mask-in .mask-in .ensures .0) at (at-store-byte .store-byte .ensures) in
-    let second = simp (changed at-new-mask, at-address-in .address-in .ensures) at
-    (at-put-mask .put-mask .ensures) in
-    completes (a .call) (c .completed .result) (at-put-mask .put-mask .last .0)
-    (at-put-mask .put-mask .last .1 .0) 4 _ (operand at-known-told3 .3)
-    (c .completed .ensures) (second ∙ ap (λ m. perform m new) first)
+    let put = c .before .before .before .before .before in
+    let here = real (stored put) in
+    let a = here .start .args in
+    let call = stored put .before .before .before .before .before .before .before .before .before in
+    let mask = call .before .before .before .before .before .before .before in
+    let old = masked mask in
+    let at = address (old .before .before .before .before) in
+    let new = store (addressIn (at .before .before .field .given .0 .0)) 1
+    (newMask (a .change) (maskIn (old .before .before .halfword .given .0 .0)) (immediate (a .call))) in
+    completes (a .call) (c .completed .result) (put .put-mask .last .0) (put .put-mask .last .1 .0) 4 _ (here .runs)
+    (c .completed .ensures)
+    (simp (changed mask, at .address-in .ensures) at (put .put-mask .ensures)
+    ∙ ap (λ m. perform m new) (simp (old .mask-in .ensures .0) at (stored put .store-byte .ensures)))
 
 pub store-then-spec : {M : Type 1} → statement M
 store-then-spec =

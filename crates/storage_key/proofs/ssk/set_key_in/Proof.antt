@@ -1,289 +1,123 @@
-use mathlib.Core.Path.{sym, ap, _∙_}
-use Rattle.rules.specs.Bits.{bits, bit}
-use Rattle.rules.specs.Machine.{perform, store}
-use Rattle.rules.specs.SetStorageKey.{keyWord, addressWord, swapWith, storeSwapWord, setBlockKey, setKeyIn}
+use mathlib.Core.Path.{sym, _∙_}
+use Rattle.rules.specs.Machine.{Machine}
+use Rattle.rules.specs.Steps.{Steps}
+use Rattle.rules.specs.Call.{Completion}
+use Rattle.rules.specs.SetStorageKey.{storeSwapWord, setKeyIn}
 use Rattle.storage.specs.Answers.{machine}
-use Rattle.storage.proofs.Laws.{Left, begin, fresh, waited, chosen, rejected, step, halts, ended-by, completes}
+use Rattle.storage.proofs.Laws.{begin, fresh, chosen, rejected, completes, finishes}
+use Rattle.storage.proofs.Stages.{Reached, Asked, asks, asks-after, given, reached-keys, ended-with}
 use borrow.Author.Needs.{needs}
 use Rattle.storage_key.proofs.ssk.set_key_in.Statement.{statement}
 use Rattle.storage_key.proofs.ssk.set_key_in.Tie as tie
 
-abbrev Here : tie.Start → Type 0
-Here c =
-    let a = c .args in
-    Left (machine (a .storage .now) (a .keys .now)) (setKeyIn (a .call) (a .format) (a .segment) (a .at))
+abbrev entry : tie.Start → Machine
+entry c = machine (c .args .storage .now) (c .args .keys .now)
 
--- step 7: the swap word's address
-abbrev place : (c : tie.After-known-told)
-    → let at-slice-known = c .before .before .before .before .before .before .before .before .before .before in
-    Here (at-slice-known .before)
+abbrev stage : tie.Start → Steps Completion
+stage c = setKeyIn (c .args .call) (c .args .format) (c .args .segment) (c .args .at)
+
+-- step 7: the address of the swap word
+abbrev place : tie.After-swap-word-at → Asked entry stage
 unfolding setKeyIn
 place c =
-    let at-swap-word-at = c .before .before .before .before .before in
-    let start = at-swap-word-at .before .before .before .before .before .before in
-    let a = start .args in
-    let m = machine (a .storage .now) (a .keys .now) in (
-      _,
-      _,
-      _,
-      step (at-swap-word-at .swap-word-at .result) (a .storage .now) (at-swap-word-at .swap-word-at .last .1 .0) _ _
-          (begin m (setKeyIn (a .call) (a .format) (a .segment) (a .at)))
-          (fresh _ _ (at-swap-word-at .swap-word-at .ensures)) (c .before .found .given .1),
-    )
-
--- step 8: the swap word
-abbrev word : (c : tie.After-known-told2)
-    → let at-found = c .before .before .before .before .before .before .before .before .before .before in
-    let start = at-found .before .before .before .before .before .before .before .before .before .before in
-    Here start
-unfolding setKeyIn place
-word c =
-    let at-after = c .before .before .before in
-    let at-control-word = at-after .before .before .before in
-    let at-known-told = at-control-word .before .before .before in
-    let at-slice-known =
-    at-known-told .before .before .before .before .before .before .before .before .before .before in
-    let s = at-slice-known .before .args .storage .now in
-    let ks = at-control-word .control-word .last .1 .0 in (
-      _,
-      _,
-      _,
-      step (at-after .after .result) s ks _ _ (place at-known-told .3)
-          (waited (at-control-word .control-word .result) (at-after .after .result) _ s ks _ _
-          (at-after .after .ensures) (at-control-word .control-word .ensures)) (c .before .field .given .1),
-    )
-
--- steps 9 and 10: the page
-abbrev page : (c : tie.After-known-told3)
-    → let at-field = c .before .before .before .before .before .before .before .before .before .before in
-    let at-match = at-field .before .before .before .before .before .before .before .before .before .before in
-    let start = at-match .before .before .before .before .before .before .before .before .before in
-    Here start
-unfolding setKeyIn place word
-page c =
-    let at-after2 = c .before .before .before in
-    let at-page-of = at-after2 .before .before .before in
-    let at-known-told2 = at-page-of .before .before .before in
-    let at-found = at-known-told2 .before .before .before .before .before .before .before .before .before .before in
-    let start = at-found .before .before .before .before .before .before .before .before .before .before in
-    let s = start .args .storage .now in
-    let ks = at-page-of .page-of .last .1 .0 in (
-      _,
-      _,
-      _,
-      step (at-after2 .after2 .result) s ks _ _ (word at-known-told2 .3)
-          (waited (at-page-of .page-of .result) (at-after2 .after2 .result) _ s ks _ _ (at-after2 .after2 .ensures)
-          (at-page-of .page-of .ensures)) (c .before .entry .given .1),
-    )
-
--- step 11: the page is valid, and names a block
-abbrev valid : (c : tie.Else1)
-    → let at-page-of = c .before .before .before .before .before .before .before .before .before .before in
-    let at-control-word-arg2 =
-    at-page-of .before .before .before .before .before .before .before .before .before .before in
-    let at-guest =
-    at-control-word-arg2 .before .before .before .before .before .before .before .before .before .before in
-    let start = at-guest .before .before .before in
-    Here start
-unfolding setKeyIn setBlockKey place word page
-valid c =
-    let at-known-told3 = c .before .before .before .before in
-    (_, _, _, rejected _ _ _ (page at-known-told3 .3) (sym (c .before .is-invalid .ensures) ∙ c .if1 .left))
-
-abbrev key : (c : tie.After-known-told4)
-    → let at-is-invalid = c .before .before .before .before .before .before .before .before .before .before in
-    let at-page-of-arg2 =
-    at-is-invalid .before .before .before .before .before .before .before .before .before .before in
-    let at-control-word-arg =
-    at-page-of-arg2 .before .before .before .before .before .before .before .before .before .before in
-    let at-slice-known2 =
-    at-control-word-arg .before .before .before .before .before .before .before .before .before .before in
-    let start = at-slice-known2 .before .before in
-    Here start
-unfolding setKeyIn setBlockKey place word page valid
-key c =
-    let at-after3 = c .before .before .before in
-    let at-consult-key = at-after3 .before .before .before in
-    let at-real-address = at-consult-key .before .before in
-    let at-keys3 = at-real-address .before .before .before .before .before .before .before .before .before .before in
-    let at-control-word = at-keys3 .before .before .before .before .before .before .before .before .before .before in
-    let at-swap-word-at-arg =
-    at-control-word .before .before .before .before .before .before .before .before .before .before in
-    let start = at-swap-word-at-arg .before .before .before .before in
-    let s = start .args .storage .now in
-    let ks = at-consult-key .consult-key .last .0 in
-    let f = simp (at-real-address .real-address .ensures) at (at-consult-key .consult-key .ensures s) in (
-      _,
-      _,
-      _,
-      step (at-after3 .after3 .result) s ks _ _ (valid (at-real-address .before) .3)
-          (waited (at-consult-key .consult-key .result) (at-after3 .after3 .result) _ s ks _ _
-          (at-after3 .after3 .ensures) f) (c .before .consulted .given .1),
-    )
+    let start = c .before .before .before .before .before .before in
+    asks start _ _ (begin (entry start) (stage start)) (c .swap-word-at .result) (start .args .storage .now)
+    (c .swap-word-at .last .1 .0) (fresh _ _ (c .swap-word-at .ensures))
 
 returns : tie.Need-returns
-unfolding setKeyIn
+unfolding setKeyIn place
 returns c =
-    let at-swap-word-at = c .before .before .before .before .before in
-    let start = at-swap-word-at .before .before .before .before .before .before in
-    let a = start .args in
-    let s = a .storage .now in
-    let ks = at-swap-word-at .swap-word-at .last .1 .0 in
-    ended-by (a .call .guest) (c .ending .result) s ks (at-swap-word-at .swap-word-at .result) (c .ending .ensures)
+    let asked = place (c .before .before .before .before .before) in
+    ended-with (asked .start .args .call .guest) (c .ending .result) asked (c .ending .ensures)
     (c .before .enum-told .given .1)
-    (halts (at-swap-word-at .swap-word-at .result) s ks _ _
-    (begin (machine s (a .keys .now)) (setKeyIn (a .call) (a .format) (a .segment) (a .at)))
-    (fresh _ _ (at-swap-word-at .swap-word-at .ensures)) (c .before .enum-told .given .1))
+
+-- step 8: the swap word
+abbrev field : tie.After-after → Asked entry stage
+unfolding setKeyIn place
+field c =
+    let call = c .before .before .before in
+    let found = call .before .before .before .before in
+    let here = given (place (found .before .before .before .before)) (found .found .given .1) in
+    asks-after (here .start) _ _ (here .runs) (call .control-word .result) (c .after .result)
+    (here .start .args .storage .now) (call .control-word .last .1 .0) (c .after .ensures) (call .control-word .ensures)
 
 returns-2 : tie.Need-returns-2
-unfolding setKeyIn place
+unfolding setKeyIn place field
 returns-2 c =
-    let at-after = c .before .before .before in
-    let at-control-word = at-after .before .before .before in
-    let at-known-told = at-control-word .before .before .before in
-    let at-slice-known =
-    at-known-told .before .before .before .before .before .before .before .before .before .before in
-    let a = at-slice-known .before .args in
-    let s = a .storage .now in
-    let ks = at-control-word .control-word .last .1 .0 in
-    ended-by (a .call .guest) (c .ending2 .result) s ks (at-after .after .result) (c .ending2 .ensures)
+    let asked = field (c .before .before .before) in
+    ended-with (asked .start .args .call .guest) (c .ending2 .result) asked (c .ending2 .ensures)
     (c .before .enum-told2 .given .1)
-    (halts (at-after .after .result) s ks _ _ (place at-known-told .3)
-    (waited (at-control-word .control-word .result) (at-after .after .result) _ s ks _ _ (at-after .after .ensures)
-    (at-control-word .control-word .ensures)) (c .before .enum-told2 .given .1))
+
+-- steps 9 and 10: the page entry
+abbrev word : tie.After-page-of → Reached entry stage
+unfolding setKeyIn place field
+word c = let found = c .before .before .before .before in given (field (found .before .before)) (found .field .given .1)
+
+abbrev entered : tie.After-after2 → Asked entry stage
+unfolding setKeyIn place field word
+entered c =
+    let call = c .before .before .before in
+    let here = word call in
+    asks-after (here .start) _ _ (here .runs) (call .page-of .result) (c .after2 .result)
+    (here .start .args .storage .now) (call .page-of .last .1 .0) (c .after2 .ensures) (call .page-of .ensures)
 
 same-length-6 : tie.Need-same-length-6
+unfolding setKeyIn place field word
 same-length-6 c =
-    let at-page-of = c .before .before .before .before .before .before in
-    let at-control-word = at-page-of .before .before .before .before .before .before .before .before .before in
-    let at-swap-word-at = at-control-word .before .before .before .before .before .before .before .before in
-    at-page-of .page-of .kept .1 .0 ∙ at-control-word .control-word .kept .1 .0
-    ∙ at-swap-word-at .swap-word-at .kept .1 .0
+    let call = c .before .before .before .before .before .before in
+    call .page-of .kept .1 .0 ∙ reached-keys (word call)
 
 returns-3 : tie.Need-returns-3
-unfolding setKeyIn place word
+unfolding setKeyIn place field word entered
 returns-3 c =
-    let at-after2 = c .before .before .before in
-    let at-page-of = at-after2 .before .before .before in
-    let at-known-told2 = at-page-of .before .before .before in
-    let at-found = at-known-told2 .before .before .before .before .before .before .before .before .before .before in
-    let start = at-found .before .before .before .before .before .before .before .before .before .before in
-    let a = start .args in
-    let s = a .storage .now in
-    let ks = at-page-of .page-of .last .1 .0 in
-    ended-by (a .call .guest) (c .ending3 .result) s ks (at-after2 .after2 .result) (c .ending3 .ensures)
+    let asked = entered (c .before .before .before) in
+    ended-with (asked .start .args .call .guest) (c .ending3 .result) asked (c .ending3 .ensures)
     (c .before .enum-told3 .given .1)
-    (halts (at-after2 .after2 .result) s ks _ _ (word at-known-told2 .3)
-    (waited (at-page-of .page-of .result) (at-after2 .after2 .result) _ s ks _ _ (at-after2 .after2 .ensures)
-    (at-page-of .page-of .ensures)) (c .before .enum-told3 .given .1))
+
+abbrev page : tie.After-is-invalid → Reached entry stage
+unfolding setKeyIn place field word entered
+page c = let found = c .before .before in given (entered (found .before .before)) (found .entry .given .1)
+
+-- step 11, the page is invalid: step 12 alone
+abbrev invalid : tie.After-store-word → tie.Then1
+invalid c = c .before .before .before .before
 
 same-length-8 : tie.Need-same-length-8
+unfolding setKeyIn place field word entered page
 same-length-8 c =
-    let at-store-word = c .before .before .before .before .before in
-    let at-match3 = at-store-word .before .before .before .before .before .before .before .before .before .before in
-    let at-page-of = at-match3 .before .before .before .before in
-    let at-control-word = at-page-of .before .before .before .before .before .before .before .before .before in
-    let at-swap-word-at = at-control-word .before .before .before .before .before .before .before .before in
-    at-store-word .store-word .kept .1 .0 ∙ at-page-of .page-of .kept .1 .0
-    ∙ at-control-word .control-word .kept .1 .0 ∙ at-swap-word-at .swap-word-at .kept .1 .0
+    let put = c .before .before .before .before .before in
+    put .store-word .kept .1 .0 ∙ reached-keys (page (invalid put .before))
 
 returns-4 : tie.Need-returns-4
-unfolding setKeyIn storeSwapWord place word page
+unfolding setKeyIn storeSwapWord place field word entered page
 returns-4 c =
-    let at-store-word = c .before .before .before .before .before in
-    let at-if1 = at-store-word .before .before .before .before in
-    let at-address-word = at-if1 .before .before in
-    let at-known-told3 = at-address-word .before .before in
-    let at-field = at-known-told3 .before .before .before .before .before .before .before .before .before .before in
-    let at-match = at-field .before .before .before .before .before .before .before .before .before .before in
-    let start = at-match .before .before .before .before .before .before .before .before .before in
-    let a = start .args in
-    completes (a .call) (c .completed .result) (at-store-word .store-word .last .0)
-    (at-store-word .store-word .last .1 .0) 2 _
-    (chosen _ _ _ (page at-known-told3 .3) (sym (at-if1 .before .is-invalid .ensures) ∙ at-if1 .if1 .taken))
-    (c .completed .ensures)
-    (simp (
-      at-store-word .before .swap-with .ensures,
-      at-address-word .before .key-word .ensures,
-      at-address-word .address-word .ensures,
-    ) at (at-store-word .store-word .ensures))
+    let put = c .before .before .before .before .before in
+    let test = invalid put in
+    let here = page (test .before) in
+    completes (here .start .args .call) (c .completed .result) (put .store-word .last .0) (put .store-word .last .1 .0)
+    2 _ (chosen _ _ _ (here .runs) (sym (test .before .is-invalid .ensures) ∙ test .if1 .taken))
+    (c .completed .ensures) (simp (put .before .swap-word .ensures) at (put .store-word .ensures))
+
+-- it is valid: steps 11 and 12
+abbrev valid : tie.After-set-block-key → tie.Else1
+valid c = c .before .before .before .before
 
 same-length-10 : tie.Need-same-length-10
+unfolding setKeyIn place field word entered page
 same-length-10 c =
-    let at-consult-key = c .before .before .before .before .before .before in
-    let at-after2 = at-consult-key .before .before .before .before .before .before .before .before .before .before in
-    let at-page-of = at-after2 .before .before .before in
-    let at-control-word = at-page-of .before .before .before .before .before .before .before .before .before in
-    let at-swap-word-at = at-control-word .before .before .before .before .before .before .before .before in
-    at-consult-key .consult-key .kept .0 ∙ at-page-of .page-of .kept .1 .0 ∙ at-control-word .control-word .kept .1 .0
-    ∙ at-swap-word-at .swap-word-at .kept .1 .0
+    let call = c .before .before .before .before .before in
+    call .set-block-key .kept .1 .0 ∙ reached-keys (page (valid call .before))
 
 returns-5 : tie.Need-returns-5
-unfolding setKeyIn setBlockKey place word page valid
+unfolding setKeyIn place field word entered page
 returns-5 c =
-    let at-after3 = c .before .before .before in
-    let at-consult-key = at-after3 .before .before .before in
-    let at-real-address = at-consult-key .before .before in
-    let at-keys3 = at-real-address .before .before .before .before .before .before .before .before .before .before in
-    let at-control-word = at-keys3 .before .before .before .before .before .before .before .before .before .before in
-    let at-swap-word-at-arg =
-    at-control-word .before .before .before .before .before .before .before .before .before .before in
-    let start = at-swap-word-at-arg .before .before .before .before in
-    let a = start .args in
-    let s = a .storage .now in
-    let ks = at-consult-key .consult-key .last .0 in
-    let f = simp (at-real-address .real-address .ensures) at (at-consult-key .consult-key .ensures s) in
-    ended-by (a .call .guest) (c .ending4 .result) s ks (at-after3 .after3 .result) (c .ending4 .ensures)
-    (c .before .enum-told4 .given .1)
-    (halts (at-after3 .after3 .result) s ks _ _ (valid (at-real-address .before) .3)
-    (waited (at-consult-key .consult-key .result) (at-after3 .after3 .result) _ s ks _ _ (at-after3 .after3 .ensures) f)
-    (c .before .enum-told4 .given .1))
-
-same-length-12 : tie.Need-same-length-12
-same-length-12 c =
-    let at-store-word2 = c .before .before .before .before .before in
-    let at-set-key = at-store-word2 .before .before .before .before .before .before in
-    let at-consult-key = at-set-key .before .before .before .before .before .before .before .before .before in
-    let at-after2 = at-consult-key .before .before .before .before .before .before .before .before .before .before in
-    let at-page-of = at-after2 .before .before .before in
-    let at-control-word = at-page-of .before .before .before .before .before .before .before .before .before in
-    let at-swap-word-at = at-control-word .before .before .before .before .before .before .before .before in
-    at-store-word2 .store-word2 .kept .1 .0 ∙ at-set-key .set-key .kept .0 ∙ at-consult-key .consult-key .kept .0
-    ∙ at-page-of .page-of .kept .1 .0 ∙ at-control-word .control-word .kept .1 .0
-    ∙ at-swap-word-at .swap-word-at .kept .1 .0
-
-returns-6 : tie.Need-returns-6
-unfolding setKeyIn storeSwapWord setBlockKey place word page valid key
-returns-6 c =
-    let at-store-word2 = c .before .before .before .before .before in
-    let at-set-key = at-store-word2 .before .before .before .before .before .before in
-    let at-known-told4 = at-set-key .before .before .before in
-    let at-real-address = at-known-told4 .before .before .before .before .before .before .before .before in
-    let at-address-word = at-real-address .before .before .before in
-    let at-page-of-arg =
-    at-address-word .before .before .before .before .before .before .before .before .before .before in
-    let at-field = at-page-of-arg .before .before in
-    let at-found = at-field .before .before .before .before .before .before .before .before .before in
-    let start = at-found .before .before .before .before .before .before .before .before .before .before in
-    let a = start .args in
-    let call = a .call in
-    let s = a .storage .now in
-    let old = at-known-told4 .before .consulted .given .0 .0 in
-    let swap = swapWith (bit 32 20 (addressWord call)) (at-field .field .given .0 .0) (keyWord call)
-    (bits 8 5 6 old) in
-    let first = simp (
-      at-real-address .real-address .ensures,
-      at-set-key .before .new-key .ensures,
-      at-address-word .before .key-word .ensures,
-    ) at (at-set-key .set-key .ensures s) in
-    let second = simp (
-      at-store-word2 .before .swap-with2 .ensures,
-      at-address-word .before .key-word .ensures,
-      at-address-word .address-word .ensures,
-    ) at (at-store-word2 .store-word2 .ensures) in
-    completes call (c .completed2 .result) (at-store-word2 .store-word2 .last .0)
-    (at-store-word2 .store-word2 .last .1 .0) 2 _ (key at-known-told4 .3)
-    (c .completed2 .ensures) (second ∙ ap (λ m. perform m (store (at-found .found .given .0 .0) 4 swap)) first)
+    let call = c .before .before .before .before .before in
+    let test = valid call in
+    let here = page (test .before) in
+    finishes (here .start .args .call .guest) (call .set-block-key .result) (c .answer-after .result)
+    (call .set-block-key .last .0) (call .set-block-key .last .1 .0)
+    (rejected _ _ _ (here .runs) (sym (test .before .is-invalid .ensures) ∙ test .if1 .left)) (c .answer-after .ensures)
+    (simp (call .before .before .before .real-address .ensures) at (call .set-block-key .ensures))
 
 pub set-key-in-spec : {M : Type 1} → statement M
 set-key-in-spec =
@@ -316,8 +150,6 @@ set-key-in-spec =
     (λ c κs. search needs)
     (λ c κs. search needs)
     (λ c κs. search needs)
-    (λ c κs. search needs)
-    (λ c κs. search needs)
     (λ c. search needs)
     same-length-8
     returns-4
@@ -325,16 +157,5 @@ set-key-in-spec =
     (λ c κs. search needs)
     (λ c κs. search needs)
     (λ c. search needs)
-    (λ c. search needs)
-    (λ c κs. search needs)
-    (λ c. search needs)
     same-length-10
-    returns-5
-    (λ c κs. search needs)
-    (λ c κs. search needs)
-    (λ c κs. search needs)
-    (λ c κs. search needs)
-    (λ c κs. search needs)
-    (λ c. search needs)
-    same-length-12
-    returns-6)
+    returns-5)

@@ -1,137 +1,85 @@
-use mathlib.Core.Path.{_≡_, ap, _∙_}
-use Rattle.rules.specs.Bits.{word}
-use Rattle.rules.specs.Translation.{segmentEntry}
-use Rattle.rules.specs.SetStorageKey.{addressWord, formatIn, segmentRefusal, setStorageKey}
-use Rattle.storage.specs.Answers.{machine, told, seen}
-use Rattle.storage.proofs.Laws.{Left, begin, fresh, waited, step, halts, ended-by, finishes}
+use mathlib.Core.Path.{ap, _∙_}
+use Rattle.rules.specs.Machine.{Machine}
+use Rattle.rules.specs.Steps.{Steps}
+use Rattle.rules.specs.Call.{Completion}
+use Rattle.rules.specs.SetStorageKey.{segmentRefusal, setStorageKey}
+use Rattle.storage.specs.Answers.{machine, told}
+use Rattle.storage.proofs.Laws.{begin, fresh, finishes}
+use Rattle.storage.proofs.Stages.{Reached, Asked, asks, asks-after, given, reached-keys, ended-with}
 use borrow.Author.Needs.{needs}
 use Rattle.storage_key.proofs.ssk.set_storage_key.Statement.{statement}
 use Rattle.storage_key.proofs.ssk.set_storage_key.Tie as tie
 
-abbrev Here : tie.Start → Type 0
-Here c = let a = c .args in Left (machine (a .storage .now) (a .keys .now)) (setStorageKey (a .call))
+abbrev entry : tie.Start → Machine
+entry c = machine (c .args .storage .now) (c .args .keys .now)
+
+abbrev stage : tie.Start → Steps Completion
+stage c = setStorageKey (c .args .call)
 
 -- steps 1 to 3
-abbrev table : (c : tie.After-known-told)
-    → let at-slice-known2 = c .before .before .before .before .before .before .before .before .before .before in
-    let start = at-slice-known2 .before .before in
-    Here start
+abbrev table : tie.After-segment-table → Asked entry stage
 unfolding setStorageKey
 table c =
-    let at-segment-table = c .before .before .before .before .before in
-    let start = at-segment-table .before .before .before .before .before .before .before in
-    let a = start .args in
-    let m = machine (a .storage .now) (a .keys .now) in (
-      _,
-      _,
-      _,
-      step (at-segment-table .segment-table .result) (a .storage .now)
-          (at-segment-table .segment-table .last .1 .0) _ _ (begin m (setStorageKey (a .call)))
-          (fresh _ _ (at-segment-table .segment-table .ensures)) (c .before .table .given .1),
-    )
-
--- what the walk to the segment entry says
-entry-told : (c : tie.After-refused)
-    → let at-segment-entry = c .before .before .before in
-    let at-table = at-segment-entry .before .before .before .before .before in
-    let at-segment-table = at-table .before .before .before .before in
-    let start = at-segment-table .before .before .before .before .before .before .before in
-    let s = start .args .storage .now in
-    let rseg = at-table .table .given .0 .0 in
-    let at = word 8 31 (addressWord (start .args .call)) in
-    told (c .refused .result) s (at-segment-entry .segment-entry .last .1 .0)
-    ≡ seen (segmentEntry segmentRefusal (formatIn rseg) rseg at)
-    (machine s (at-segment-table .segment-table .last .1 .0))
-entry-told c =
-    let at-segment-entry = c .before .before .before in
-    let at-format-in = at-segment-entry .before .before .before in
-    let at-address-word = at-format-in .before .before .before .before .before .before .before .before .before in
-    let start = at-address-word .before .before .before .before in
-    let s = start .args .storage .now in
-    ap (λ r. told r s (at-segment-entry .segment-entry .last .1 .0)) (c .refused .ensures)
-    ∙ simp (at-format-in .format-in .ensures, at-address-word .address-word .ensures) at
-    (at-segment-entry .segment-entry .ensures segmentRefusal)
-
--- steps 4 to 6
-abbrev entry : (c : tie.After-known-told2)
-    → let at-format-in = c .before .before .before .before .before .before .before .before .before .before in
-    let at-guest = at-format-in .before .before .before .before .before .before .before .before .before .before in
-    let start = at-guest .before .before .before in
-    Here start
-unfolding setStorageKey table
-entry c =
-    let at-after = c .before .before .before in
-    let at-segment-entry = at-after .before .before .before .before in
-    let at-known-told = at-segment-entry .before .before .before .before in
-    let at-slice-known2 =
-    at-known-told .before .before .before .before .before .before .before .before .before .before in
-    let start = at-slice-known2 .before .before in
-    let s = start .args .storage .now in
-    let ks = at-segment-entry .segment-entry .last .1 .0 in (
-      _,
-      _,
-      _,
-      step (at-after .after .result) s ks _ _ (table at-known-told .3)
-          (waited (at-after .before .refused .result) (at-after .after .result) _ s ks _ _
-          (at-after .after .ensures) (entry-told (at-after .before))) (c .before .entry .given .1),
-    )
+    let start = c .before .before .before .before .before .before .before in
+    asks start _ _ (begin (entry start) (stage start)) (c .segment-table .result) (start .args .storage .now)
+    (c .segment-table .last .1 .0) (fresh _ _ (c .segment-table .ensures))
 
 returns : tie.Need-returns
-unfolding setStorageKey
+unfolding setStorageKey table
 returns c =
-    let at-segment-table = c .before .before .before .before .before in
-    let start = at-segment-table .before .before .before .before .before .before .before in
-    let a = start .args in
-    let s = a .storage .now in
-    let ks = at-segment-table .segment-table .last .1 .0 in
-    ended-by (a .call .guest) (c .ending .result) s ks (at-segment-table .segment-table .result)
-    (c .ending .ensures) (c .before .enum-told .given .1)
-    (halts (at-segment-table .segment-table .result) s ks _ _
-    (begin (machine s (a .keys .now)) (setStorageKey (a .call)))
-    (fresh _ _ (at-segment-table .segment-table .ensures)) (c .before .enum-told .given .1))
+    let asked = table (c .before .before .before .before .before) in
+    ended-with (asked .start .args .call .guest) (c .ending .result) asked (c .ending .ensures)
+    (c .before .enum-told .given .1)
+
+-- where the address and the format were taken
+abbrev address : tie.After-format-in → tie.After-address-word
+address c = c .before .before .before .before .before .before .before .before .before
+
+abbrev format : tie.After-after → tie.After-format-in
+format c = c .before .before .before .before .before .before .before
+
+-- steps 4 to 6
+abbrev segment : tie.After-after → Asked entry stage
+unfolding setStorageKey table
+segment c =
+    let walk = c .before .before .before .before in
+    let size = format c in
+    let found = size .before .before in
+    let here = given (table (found .before .before .before .before)) (found .table .given .1) in
+    let s = here .start .args .storage .now in
+    let ks = walk .segment-entry .last .1 .0 in
+    asks-after (here .start) _ _ (here .runs) (c .before .refused .result) (c .after .result) s ks (c .after .ensures)
+    (ap (λ r. told r s ks) (c .before .refused .ensures)
+    ∙ simp (size .format-in .ensures, address size .address-word .ensures) at
+    (walk .segment-entry .ensures segmentRefusal))
 
 returns-2 : tie.Need-returns-2
-unfolding setStorageKey table
+unfolding setStorageKey table segment
 returns-2 c =
-    let at-after = c .before .before .before in
-    let at-segment-entry = at-after .before .before .before .before in
-    let at-known-told = at-segment-entry .before .before .before .before in
-    let at-slice-known2 =
-    at-known-told .before .before .before .before .before .before .before .before .before .before in
-    let start = at-slice-known2 .before .before in
-    let a = start .args in
-    let s = a .storage .now in
-    let ks = at-segment-entry .segment-entry .last .1 .0 in
-    ended-by (a .call .guest) (c .ending2 .result) s ks (at-after .after .result) (c .ending2 .ensures)
+    let asked = segment (c .before .before .before) in
+    ended-with (asked .start .args .call .guest) (c .ending2 .result) asked (c .ending2 .ensures)
     (c .before .enum-told2 .given .1)
-    (halts (at-after .after .result) s ks _ _ (table at-known-told .3)
-    (waited (at-after .before .refused .result) (at-after .after .result) _ s ks _ _ (at-after .after .ensures)
-    (entry-told (at-after .before))) (c .before .enum-told2 .given .1))
+
+-- steps 7 to 12
+abbrev found : tie.After-set-key-in → Reached entry stage
+unfolding setStorageKey table segment
+found c = let at = c .before .before .before .before in given (segment (at .before .before)) (at .entry .given .1)
 
 same-length-6 : tie.Need-same-length-6
+unfolding setStorageKey table segment found
 same-length-6 c =
-    let at-set-key-in = c .before .before .before .before .before in
-    let at-segment-entry =
-    at-set-key-in .before .before .before .before .before .before .before .before .before .before in
-    let at-segment-table = at-segment-entry .before .before .before .before .before .before .before .before .before in
-    at-set-key-in .set-key-in .kept .1 .0 ∙ at-segment-entry .segment-entry .kept .1 .0
-    ∙ at-segment-table .segment-table .kept .1 .0
+    let call = c .before .before .before .before .before in
+    call .set-key-in .kept .1 .0 ∙ reached-keys (found call)
 
 returns-3 : tie.Need-returns-3
-unfolding setStorageKey table entry
+unfolding setStorageKey table segment found
 returns-3 c =
-    let at-set-key-in = c .before .before .before .before .before in
-    let at-known-told2 = at-set-key-in .before .before .before in
-    let at-format-in =
-    at-known-told2 .before .before .before .before .before .before .before .before .before .before in
-    let at-address-word = at-format-in .before .before .before .before .before .before .before .before .before in
-    let start = at-address-word .before .before .before .before in
-    let a = start .args in
-    finishes (a .call .guest) (at-set-key-in .set-key-in .result) (c .answer-after .result)
-    (at-set-key-in .set-key-in .last .0) (at-set-key-in .set-key-in .last .1 .0)
-    (entry at-known-told2 .3) (c .answer-after .ensures)
-    (simp (at-format-in .format-in .ensures, at-address-word .address-word .ensures) at
-    (at-set-key-in .set-key-in .ensures))
+    let call = c .before .before .before .before .before in
+    let here = found call in
+    let size = format (call .before .before .before .before .before .before) in
+    finishes (here .start .args .call .guest) (call .set-key-in .result) (c .answer-after .result)
+    (call .set-key-in .last .0) (call .set-key-in .last .1 .0) (here .runs) (c .answer-after .ensures)
+    (simp (size .format-in .ensures, address size .address-word .ensures) at (call .set-key-in .ensures))
 
 pub set-storage-key-spec : {M : Type 1} → statement M
 set-storage-key-spec =

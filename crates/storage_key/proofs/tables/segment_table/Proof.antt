@@ -1,73 +1,58 @@
+use Prim.Native.Nat.{ℕ}
 use borrow.Author.Tests.{eq-eqb, ne-eqb}
+use Rattle.rules.specs.Machine.{Machine}
+use Rattle.rules.specs.Steps.{Steps}
 use Rattle.rules.specs.SetStorageKey.{segmentTable}
 use Rattle.storage.specs.Answers.{machine}
-use Rattle.storage.proofs.Laws.{Left, begin, fresh, pass, stops, step, hands, settles}
+use Rattle.storage.proofs.Laws.{begin, fresh, pass, stops, settles}
+use Rattle.storage.proofs.Stages.{Reached, Asked, asks, given, handed}
 use borrow.Author.Needs.{needs}
 use Rattle.storage_key.proofs.tables.segment_table.Statement.{statement}
 use Rattle.storage_key.proofs.tables.segment_table.Tie as tie
 
-abbrev Here : tie.Start → Type 0
-Here c = let a = c .args in Left (machine (a .storage .now) (a .keys .now)) (segmentTable (a .call))
+abbrev entry : tie.Start → Machine
+entry c = machine (c .args .storage .now) (c .args .keys .now)
 
--- step 1 passed
-abbrev assisted : (c : tie.Else1)
-    → let start = c .before .before .before .before .before .before in
-    Here start
-unfolding segmentTable
-assisted c =
-    let start = c .before .before .before .before .before .before in
-    let a = start .args in
-    let m = machine (a .storage .now) (a .keys .now) in (
-      _,
-      _,
-      _,
-      pass _ _ _ (begin m (segmentTable (a .call)))
-          (simp (c .before .address-word .ensures) at (c .if1 .left)),
-    )
+abbrev stage : tie.Start → Steps ℕ
+stage c = segmentTable (c .args .call)
 
--- step 2: MICRSEG
-abbrev field : (c : tie.After-known-told)
-    → let at-guest = c .before .before .before .before .before .before .before .before .before .before in
-    let start = at-guest .before .before .before in
-    Here start
-unfolding segmentTable assisted
-field c =
-    let at-micrseg = c .before .before .before .before .before in
-    let at-if1 = at-micrseg .before .before in
-    let start = at-if1 .before .before .before .before .before .before in (
-      _,
-      _,
-      _,
-      step (at-micrseg .micrseg .result) (start .args .storage .now) (at-micrseg .micrseg .last .1 .0) _ _
-          (assisted at-if1 .3)
-          (fresh _ _ (at-micrseg .micrseg .ensures)) (c .before .field .given .1),
-    )
+abbrev start : tie.After-address-word → tie.Start
+start c = c .before .before .before .before .before
 
+-- step 1
 returns : tie.Need-returns
 unfolding segmentTable
 returns c =
-    let start = c .before .before .before .before .before .before in
-    let a = start .args in
-    let m = machine (a .storage .now) (a .keys .now) in
-    stops _ _ _ (begin m (segmentTable (a .call))) (simp (c .before .address-word .ensures) at (c .if1 .taken))
+    let at = c .before in
+    stops _ _ _ (begin (entry (start at)) (stage (start at))) (simp (at .address-word .ensures) at (c .if1 .taken))
+
+-- step 2: MICRSEG
+abbrev field : tie.After-micblok-word → Asked entry stage
+unfolding segmentTable
+field c =
+    let on = c .before .before in
+    let at = on .before in
+    asks (start at) _ _
+    (pass _ _ _ (begin (entry (start at)) (stage (start at))) (simp (at .address-word .ensures) at (on .if1 .left)))
+    (c .micblok-word .result) (start at .args .storage .now) (c .micblok-word .last .1 .0)
+    (fresh _ _ (c .micblok-word .ensures))
 
 returns-2 : tie.Need-returns-2
-unfolding segmentTable assisted
-returns-2 c =
-    let at-micrseg = c .before .before .before .before in
-    let at-if1 = at-micrseg .before .before in
-    let start = at-if1 .before .before .before .before .before .before in
-    hands (at-micrseg .micrseg .result) (start .args .storage .now) (at-micrseg .micrseg .last .1 .0) _ _
-    (assisted at-if1 .3)
-    (fresh _ _ (at-micrseg .micrseg .ensures)) (c .enum-told .given .1)
+unfolding segmentTable field
+returns-2 c = handed (field (c .before .before .before .before)) (c .enum-told .given .1)
 
+abbrev rseg : tie.After-known-told → Reached entry stage
+unfolding segmentTable field
+rseg c = given (field (c .before .before .before .before .before)) (c .before .field .given .1)
+
+-- step 3
 returns-3 : tie.Need-returns-3
-unfolding segmentTable assisted field
-returns-3 c = stops _ _ _ (field (c .before) .3) (eq-eqb _ _ (c .if2 .taken))
+unfolding segmentTable field rseg
+returns-3 c = stops _ _ _ (rseg (c .before) .runs) (eq-eqb _ _ (c .if2 .taken))
 
 returns-4 : tie.Need-returns-4
-unfolding segmentTable assisted field
-returns-4 c = settles _ (pass _ _ _ (field (c .before) .3) (ne-eqb _ _ (c .if2 .left)))
+unfolding segmentTable field rseg
+returns-4 c = settles _ (pass _ _ _ (rseg (c .before) .runs) (ne-eqb _ _ (c .if2 .left)))
 
 pub segment-table-spec : {M : Type 1} → statement M
 segment-table-spec =

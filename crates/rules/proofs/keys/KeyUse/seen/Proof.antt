@@ -1,9 +1,0 @@
-use borrow.Author.Needs.{needs}
-use Rattle.rules.proofs.keys.KeyUse.seen.Statement.{statement}
-use Rattle.rules.proofs.keys.KeyUse.seen.Tie as tie
-
-returns : tie.Need-returns
-returns c = simp (c .enum-told .given .1)
-
-pub seen-spec : {M : Type 1} → statement M
-seen-spec = tie.close (tie.spec (λ c. search needs) (λ c. search needs) returns (λ c. search needs))

@@ -54,25 +54,4 @@ impl State {
         next.sum = sum;
         next
     }
-
-    pub(crate) fn with_storage(self, size: u32, keys: u32) -> State {
-        let mut next = self;
-        next.size = size;
-        next.keys = keys;
-        next.has_storage = true;
-        next
-    }
-
-    pub(crate) fn with_record(self) -> State {
-        let mut next = self;
-        next.has_record = true;
-        next
-    }
-
-    // One call on: the checksum begins anew.
-    pub(crate) fn called(self) -> State {
-        let mut next = self.past(checksum::START);
-        next.calls = std::num::wrapping_add_u32(self.calls, 1);
-        next
-    }
 }

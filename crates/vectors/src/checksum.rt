@@ -4,8 +4,8 @@ ghost use Prim.Native.Nat.{_≤_};
 // The register before the first byte.
 pub(crate) const START: u32 = 0xffffffff;
 
-// The register after eight steps, with the polynomial 0xedb88320: from each value of a byte's right four bits alone, then
-// from each of its left four bits alone. From a whole byte it is the exclusive or of the two.
+// The register after eight steps, with the polynomial 0xedb88320: from each value of a byte's right four bits with the
+// left four zero, then from each of the left with the right zero. From a whole byte it is the exclusive or of the two.
 const STEPS: [u32; 32] = [
     0x00000000,
     0x77073096,

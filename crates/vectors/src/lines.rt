@@ -14,12 +14,6 @@ use libc::STDIN_FILENO;
 // What follows the first character of the longest line.
 const LONGEST: usize = 190;
 
-enum Line {
-    // the checksum's register after the line
-    Sum(u32),
-    Bad(Trouble),
-}
-
 // Fills the line from the input; false where the input ends before.
 pub(crate) fn whole(line: &mut [u8]) -> bool {
     let n = io::read_full(STDIN_FILENO, line);
@@ -92,74 +86,69 @@ fn fields(line: &[u8], kind: u8, numbers: &mut [u32; 21]) -> bool {
     n > 0 && line[n - 1] == b'\n'
 }
 
-// Reads what follows the first character, and prints it if it is a comment.
-fn read(kind: u8, line: &mut [u8], numbers: &mut [u32; 21], sum: u32) -> Line {
+// Reads a line: its numbers, and into the state its kind and the checksum after it.
+fn read(numbers: &mut [u32; 21], state: State) -> Step {
+    let mut first = [0u8; 1];
+    let mut longest = [0u8; LONGEST];
+    if !whole(&mut first) {
+        return Step::Stopped(Trouble::Ends);
+    }
+    let mut next = state;
+    next.lines = std::num::wrapping_add_u64(state.lines, 1);
+    next.kind = first[0];
+    next.sum = checksum::over(state.sum, &first);
+    read_kind(&mut longest, numbers, next)
+}
+
+fn read_kind(longest: &mut [u8], numbers: &mut [u32; 21], state: State) -> Step {
+    let length = length_of(state.kind);
+    if length > longest.len() {
+        return Step::Stopped(Trouble::Kind);
+    }
+    read_rest(&mut longest[0..length], numbers, state)
+}
+
+// What follows the first character. A comment is printed as it stands.
+fn read_rest(line: &mut [u8], numbers: &mut [u32; 21], state: State) -> Step {
+    let kind = state.kind;
     if !whole(line) {
-        return Line::Bad(Trouble::Ends);
+        return Step::Stopped(Trouble::Ends);
     }
     if !fields(line, kind, numbers) {
-        return Line::Bad(Trouble::Form);
+        return Step::Stopped(Trouble::Form);
     }
     if kind == b'#' {
         report::print(b"#");
         report::print(line);
     }
-    Line::Sum(checksum::over_first(sum, line, covered(kind)))
+    let mut next = state;
+    next.sum = checksum::over_first(state.sum, line, covered(kind));
+    Step::Next(next)
 }
 
-fn read_kind(kind: u8, longest: &mut [u8], numbers: &mut [u32; 21], sum: u32) -> Line {
-    let length = length_of(kind);
-    if length > longest.len() {
-        return Line::Bad(Trouble::Kind);
-    }
-    read(kind, &mut longest[0..length], numbers, sum)
-}
-
-// One line of the input.
+// One line of the input, and what it does.
 pub(crate) fn step(
     storage: &mut [u8],
     keys: &mut [u8],
     record: &mut [u32; 21],
     state: State,
 ) -> Step {
-    let mut first = [0u8; 1];
-    let mut longest = [0u8; LONGEST];
     let mut numbers = [0u32; 21];
-    if !whole(&mut first) {
-        return Step::Stopped(Trouble::Ends);
-    }
-    let kind = first[0];
-    let sum = checksum::over(state.sum, &first);
-    match read_kind(kind, &mut longest, &mut numbers, sum) {
-        Line::Sum(sum) => act(kind, &numbers, storage, keys, record, state.past(sum)),
-        Line::Bad(trouble) => Step::Stopped(trouble),
-    }
-}
-
-// What a line does that is of its form.
-fn act(
-    kind: u8,
-    numbers: &[u32; 21],
-    storage: &mut [u8],
-    keys: &mut [u8],
-    record: &mut [u32; 21],
-    state: State,
-) -> Step {
+    let line = read(&mut numbers, state);
+    let Step::Next(next) = line else {
+        return line;
+    };
     let a = numbers[0];
     let b = numbers[1];
+    let kind = next.kind;
     match kind {
-        b's' => new_storage(
-            bytes::clear(storage, a) & bytes::clear(keys, b),
-            a,
-            b,
-            state,
-        ),
-        b'w' | b'b' => stored(bytes::put(storage, state.size, a, b, bytes_of(kind)), state),
-        b'q' | b'k' => stored(bytes::put(keys, state.keys, a, b, bytes_of(kind)), state),
-        b'r' => calls::new_record(record, numbers, state),
-        b'a' => calls::call(storage, keys, record, numbers, state),
-        b'e' => calls::end(a, b, state),
-        _ => Step::Next(state),
+        b's' => new_storage(bytes::clear(storage, a) & bytes::clear(keys, b), a, b, next),
+        b'w' | b'b' => stored(bytes::put(storage, next.size, a, b, bytes_of(kind)), next),
+        b'q' | b'k' => stored(bytes::put(keys, next.keys, a, b, bytes_of(kind)), next),
+        b'r' => calls::new_record(record, &numbers, next),
+        b'a' => calls::call(storage, keys, record, &numbers, next),
+        b'e' => calls::end(a, b, next),
+        _ => Step::Next(next),
     }
 }
 

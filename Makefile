@@ -3,7 +3,7 @@
 # make library: proves the code, and writes target/staticlib/libvma.a for C programs.
 # make bench: the library's time for a call beside that of plain Rust.
 # make fuzz SEED=n CALLS=n: random calls through the library, compared with the second program.
-# make edges: the edges once more, by a program that is proved itself.
+# make edges: the edges once more, but those in 16 MiB, by a program that is proved itself.
 # make vectors SEED=n CALLS=n: random calls through a proved program, compared; what they reached.
 # make expected: writes the stored expected outputs anew, with the second program.
 
@@ -16,6 +16,8 @@ run: library
 	tools/vma demo
 
 test:
+	tools/shape
+	tools/places
 	cd second && cargo test --quiet
 	tools/compare-stored
 	tools/gate
@@ -32,7 +34,6 @@ fuzz: library
 edges:
 	rt check edges
 	tools/proved edges
-	tools/proved edges large
 
 vectors:
 	rt check vectors

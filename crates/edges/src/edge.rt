@@ -1,5 +1,4 @@
 // An edge: one whole call, with the storage and keys that it finds. Each base set-up completes unless it is altered.
-use crate::patches::Patches;
 use crate::places::ECBLOK;
 use crate::places::INSTRUCTION;
 use crate::places::LAST_HALFWORD;
@@ -22,54 +21,81 @@ pub(crate) const EC: u8 = 0x08;
 
 pub(crate) const BC: u8 = 0xF7;
 
-// Real PSW bits 0-31: EC mode (12) with problem state (15); DAT (5); the key 1 (8-11).
-const PSW_EC_PROBLEM: u32 = 0x00090000;
+// Real PSW: EC mode (bit 12) with problem state (15); DAT (5); the key 1 (8-11).
+const PSW_EC_PROBLEM: u64 = 0x0009000000000000;
 
-const PSW_DAT: u32 = 0x04000000;
+const PSW_DAT: u64 = 0x0400000000000000;
 
-const PSW_KEY_1: u32 = 0x00100000;
+const PSW_KEY_1: u64 = 0x0010000000000000;
 
 // Control register 0 bits 8-12 are 10000.
 const PAGES_4K_SEGMENTS_64K: u32 = 0x00800000;
 
 const USUAL_SIZE: usize = 0x4000;
 
-const KEY_BLOCK: usize = 2048;
-
 const DISPLACEMENT: u32 = 0x010;
+
+const ROOM: usize = 8;
+
+// No word of storage and no key has this place.
+const NOWHERE: u32 = 0xFFFFFFFF;
+
+// Above every address: the place of the key with number 0.
+pub(crate) const KEY_0: u32 = 0x80000000;
 
 pub(crate) struct Edge {
     pub(crate) size: usize,
-    pub(crate) key_count: usize,
     pub(crate) first: u16,
     pub(crate) installed: bool,
-    // the words and keys that differ from those of every set-up
-    pub(crate) words: Patches,
-    pub(crate) keys: Patches,
-    // PSW bits 0-31 and 32-63
-    psw_left: u32,
-    psw_right: u32,
-    register_2: u32,
-    register_3: u32,
-    register_4: u32,
+    psw: u64,
+    general: [u32; 16],
     cr0: u32,
     cr1: u32,
+    // the words and keys that differ from those of every set-up, one after another; at each place the latest stays
+    places: [u32; ROOM],
+    values: [u32; ROOM],
+    count: usize,
 }
 
-// The call's record.
+// What the call finds.
 impl Edge {
     pub(crate) fn guest(self) -> Guest {
-        let mut general = [0u32; 16];
-        general[2] = self.register_2;
-        general[3] = self.register_3;
-        general[4] = self.register_4;
+        let general = self.general;
         Guest {
-            psw: self.psw_left as u64 * 4294967296 + self.psw_right as u64,
+            psw: self.psw,
             general,
             cr0: self.cr0,
             cr1: self.cr1,
             cr6: 0x80000000 + MICBLOK,
         }
+    }
+
+    // No edge puts more than there is room for; one more would be left out.
+    pub(crate) fn word(mut self, place: u32, value: u32) -> Edge {
+        let i = self.count;
+        if i < ROOM {
+            self.places[i] = place;
+            self.values[i] = value;
+            self.count = i + 1;
+        }
+        self
+    }
+
+    pub(crate) fn key(self, number: u32, value: u8) -> Edge {
+        self.word(KEY_0 + number % KEY_0, value as u32)
+    }
+
+    // What stands at a place where `otherwise` stood at first.
+    pub(crate) fn value_at(self, place: u32, otherwise: u32) -> u32 {
+        let mut value = otherwise;
+        let mut i = 0;
+        while i < ROOM {
+            if self.places[i] == place {
+                value = self.values[i];
+            }
+            i += 1;
+        }
+        value
     }
 }
 
@@ -78,21 +104,20 @@ impl Edge {
     // 16 KiB, PSW key zero, DAT off; base register 2 with its displacement gives the operand. Virtual register 0 lets
     // SSM go on.
     fn new(first: u16) -> Edge {
-        Edge {
+        let mut edge = Edge {
             size: USUAL_SIZE,
-            key_count: USUAL_SIZE / KEY_BLOCK,
             first,
             installed: false,
-            words: Patches::none().put(ECBLOK, 0x80000000),
-            keys: Patches::none(),
-            psw_left: PSW_EC_PROBLEM,
-            psw_right: INSTRUCTION,
-            register_2: 0x5A001FF0,
-            register_3: 0,
-            register_4: 0,
+            psw: PSW_EC_PROBLEM + INSTRUCTION as u64,
+            general: [0; 16],
             cr0: 0,
             cr1: 0,
-        }
+            places: [NOWHERE; ROOM],
+            values: [0; ROOM],
+            count: 0,
+        };
+        edge.general[2] = 0x5A001FF0;
+        edge.word(ECBLOK, 0x80000000)
     }
 
     fn virtual_psw(self, mask: u8, mode: u8) -> Edge {
@@ -123,9 +148,9 @@ impl Edge {
     // the page entries 2 and 3.
     pub(crate) fn ssk() -> Edge {
         let mut edge = Edge::new(0x0834);
-        edge.register_3 = 0xABCDEF3F;
-        edge.register_4 = 0x5A023000;
-        edge.word(MICRSEG, REAL_SEGMENT_TABLE)
+        edge.general[3] = 0xABCDEF3F;
+        edge.r2(0x5A023000)
+            .word(MICRSEG, REAL_SEGMENT_TABLE)
             .word(REAL_SEGMENT_TABLE + 4 * 2, 0xF0000000 + REAL_PAGE_TABLE)
             .word(REAL_PAGE_TABLE - 4, SWAP_TABLE)
             .word(REAL_PAGE_TABLE + 2 * 2, 0x00000010)
@@ -134,21 +159,8 @@ impl Edge {
 
 // Alterations.
 impl Edge {
-    pub(crate) fn word(mut self, address: u32, value: u32) -> Edge {
-        let words = self.words;
-        self.words = words.put(address, value);
-        self
-    }
-
-    pub(crate) fn key(mut self, number: u32, value: u8) -> Edge {
-        let keys = self.keys;
-        self.keys = keys.put(number, value as u32);
-        self
-    }
-
     pub(crate) fn size(mut self, size: usize) -> Edge {
         self.size = size;
-        self.key_count = size / KEY_BLOCK;
         self
     }
 
@@ -165,31 +177,36 @@ impl Edge {
 
     // The operand at this logical address.
     pub(crate) fn operand(mut self, address: u32) -> Edge {
-        self.register_2 = rules::difference(address, DISPLACEMENT);
+        self.general[2] = rules::difference(address, DISPLACEMENT);
         self
     }
 
     // Register R2 of SSK.
     pub(crate) fn r2(mut self, value: u32) -> Edge {
-        self.register_4 = value;
+        self.general[4] = value;
         self
     }
 
     pub(crate) fn psw_key_1(mut self) -> Edge {
-        self.psw_left = PSW_EC_PROBLEM + PSW_KEY_1;
+        self.psw = PSW_EC_PROBLEM + PSW_KEY_1 + INSTRUCTION as u64;
         self
     }
 
     // The first halfword is the last of storage, so that the second isn't in storage.
     pub(crate) fn instruction_at_top(mut self) -> Edge {
-        self.psw_right = LAST_HALFWORD;
+        self.psw = PSW_EC_PROBLEM + LAST_HALFWORD as u64;
         self.word(LAST_WORD, self.first as u32)
+    }
+
+    // The PSW key isn't the instruction's, whose block is fetch-protected; it is the operand's.
+    pub(crate) fn instruction_fetch_protected(self) -> Edge {
+        self.psw_key_1().key(2, 0x28).key(4, 0x10)
     }
 
     // DAT on, 4K pages and 64K segments: the operand's page 2 is in frame 002000, the instruction's page 1 isn't valid.
     // Two page entries stand in a word.
     pub(crate) fn instruction_not_mapped(mut self) -> Edge {
-        self.psw_left = PSW_EC_PROBLEM + PSW_DAT;
+        self.psw = PSW_EC_PROBLEM + PSW_DAT + INSTRUCTION as u64;
         self.cr0 = PAGES_4K_SEGMENTS_64K;
         self.cr1 = 0xFF000000 + SEGMENT_TABLE;
         self.word(SEGMENT_TABLE, 0xF0000000 + PAGE_TABLE)

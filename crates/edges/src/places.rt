@@ -11,6 +11,9 @@ pub(crate) const MICVPSW: u32 = MICBLOK + 8;
 
 pub(crate) const ECBLOK: u32 = 0x500;
 
+// Virtual control register 15.
+pub(crate) const LAST_REGISTER: u32 = ECBLOK + 4 * 15;
+
 pub(crate) const VIRTUAL_PSW: u32 = 0x600;
 
 pub(crate) const INSTRUCTION: u32 = 0x1000;

@@ -1,13 +1,13 @@
-// The line of an edge.
+// What came of an edge, as the end of its line.
 use crate::edge::Edge;
 use crate::image::Part;
 use crate::image::initial;
 use crate::text::print;
 use crate::text::print_decimal;
 use crate::text::print_hex;
+use crate::text::print_line;
 use rules::Answer;
 use rules::Ending;
-use rules::Exception;
 
 const ADDRESS_DIGITS: usize = 6;
 
@@ -15,72 +15,69 @@ const KEY_NUMBER_DIGITS: usize = 1;
 
 const BYTE_DIGITS: usize = 2;
 
-pub(crate) fn print_call(first: u16, case: &[u8]) {
-    match first / 256 {
-        0x80 => print(b"SSM   "),
-        0xB6 => print(b"STCTL "),
-        0xAC => print(b"STNSM "),
-        0xAD => print(b"STOSM "),
-        0x08 => print(b"SSK   "),
-        _ => print(b"other "),
-    }
-    print(case);
-}
+const INTERRUPTION: u32 = 1;
 
 pub(crate) fn print_answer(answer: Answer) {
     let ending = answer.ending;
     let guest = answer.guest;
-    print(b" | ending ");
-    print_decimal(ending.number());
     print_ending(ending);
     print(b" | count ");
     print_decimal(answer.count);
     print(b" | next ");
     print_hex(guest.instruction_address() as u64, ADDRESS_DIGITS);
-    print(b" | ");
 }
 
 fn print_ending(ending: Ending) {
-    match ending {
-        Ending::Completed => print(b" completed"),
-        Ending::Interruption(exception) => print_interruption(exception),
-        Ending::Expanded => print(b" handed to the expanded assist"),
-        Ending::FieldMissing(step) => print_missing(step),
-        Ending::WrongMode => print(b" PSW bit 12 or 15 zero"),
-        Ending::WrongStorageSize => print(b" storage size"),
-        Ending::WrongKeyCount => print(b" number of keys"),
-        Ending::OddInstructionAddress => print(b" odd instruction address"),
-        Ending::NotAssisted => print(b" operation code"),
+    let number = ending.number();
+    let code = ending.code();
+    print(b" | ending ");
+    print_decimal(number);
+    print(b" ");
+    // There are no endings 4 to 8.
+    print_line(
+        b"completed\n\
+          interruption \n\
+          handed to the expanded assist\n\
+          not in storage, step \n\
+          \n\n\n\n\n\
+          PSW bit 12 or 15 zero\n\
+          storage size\n\
+          number of keys\n\
+          odd instruction address\n\
+          operation code\n",
+        number as usize,
+    );
+    if code > 0 {
+        print_decimal(code);
+    }
+    if number == INTERRUPTION {
+        print_exception(code, ending.address());
     }
 }
 
-fn print_missing(step: u32) {
-    print(b" not in storage, step ");
-    print_decimal(step);
-}
-
-fn print_interruption(exception: Exception) {
-    print(b" interruption ");
-    print_decimal(exception.code());
-    match exception {
-        Exception::PrivilegedOperation => print(b" (privileged operation)"),
-        Exception::Protection => print(b" (protection)"),
-        Exception::Addressing => print(b" (addressing)"),
-        Exception::SegmentTranslation(address) => print_translation(
-            b" (segment translation at ",
-            address,
-        ),
-        Exception::PageTranslation(address) => print_translation(
-            b" (page translation at ",
-            address,
-        ),
-        Exception::TranslationSpecification => print(b" (translation specification)"),
+// By its interruption code; 16 and 17 carry an address.
+fn print_exception(code: u32, address: u32) {
+    let line = match code {
+        2 => 0,
+        4 => 1,
+        5 => 2,
+        16 => 3,
+        17 => 4,
+        _ => 5,
+    };
+    print(b" (");
+    print_line(
+        b"privileged operation\n\
+          protection\n\
+          addressing\n\
+          segment translation at \n\
+          page translation at \n\
+          translation specification\n",
+        line,
+    );
+    if code == 16 || code == 17 {
+        print_hex(address as u64, ADDRESS_DIGITS);
     }
-}
-
-fn print_translation(words: &[u8], address: u32) {
-    print(words);
-    print_hex(address as u64, ADDRESS_DIGITS);
     print(b")");
 }
 
@@ -93,19 +90,15 @@ pub(crate) fn print_changes(lent: &[u8], edge: Edge, part: Part) {
         is_first = print_change(edge, part, i, lent[i], is_first);
         i += 1;
     }
-    print_none(is_first);
+    if is_first {
+        print(b"none");
+    }
 }
 
 fn print_title(part: Part) {
     match part {
-        Part::Storage => print(b"bytes"),
-        Part::Keys => print(b"; keys"),
-    }
-}
-
-fn print_none(is_empty: bool) {
-    if is_empty {
-        print(b": none");
+        Part::Storage => print(b" | bytes: "),
+        Part::Keys => print(b"; keys: "),
     }
 }
 
@@ -115,26 +108,17 @@ fn print_change(edge: Edge, part: Part, i: usize, new: u8, is_first: bool) -> bo
     if old == new {
         return is_first;
     }
-    print_separator(is_first);
-    print_place(part, i);
+    if !is_first {
+        print(b", ");
+    }
+    let digits = match part {
+        Part::Storage => ADDRESS_DIGITS,
+        Part::Keys => KEY_NUMBER_DIGITS,
+    };
+    print_hex(i as u64, digits);
     print(b": ");
     print_hex(old as u64, BYTE_DIGITS);
     print(b" -> ");
     print_hex(new as u64, BYTE_DIGITS);
     false
-}
-
-fn print_separator(is_first: bool) {
-    if is_first {
-        print(b": ");
-    } else {
-        print(b", ");
-    }
-}
-
-fn print_place(part: Part, i: usize) {
-    match part {
-        Part::Storage => print_hex(i as u64, ADDRESS_DIGITS),
-        Part::Keys => print_hex(i as u64, KEY_NUMBER_DIGITS),
-    }
 }

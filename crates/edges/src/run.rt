@@ -3,24 +3,71 @@ use crate::edge::Edge;
 use crate::image::Part;
 use crate::image::fill;
 use crate::report::print_answer;
-use crate::report::print_call;
 use crate::report::print_changes;
+use crate::set_storage_key;
+use crate::store_control;
+use crate::system_masks;
 use crate::text::print;
+use crate::text::print_line;
+use crate::wrong_turns;
+
+pub(crate) const STORAGE_BYTES: usize = 4194304;
+
+const KEY_BLOCK: usize = 2048;
+
+pub(crate) const KEY_COUNT: usize = STORAGE_BYTES / KEY_BLOCK;
+
+// The arrays go from function to function as arrays, whose lengths are known by type: of a slice it would have to be
+// proved after each call that its length is still the same, and the check computes the length of a local array that is
+// lent as a slice, for which its stack is too small at millions of bytes.
+pub(crate) type Storage = [u8; STORAGE_BYTES];
+
+pub(crate) type Keys = [u8; KEY_COUNT];
+
+// Edges that stand in one file.
+pub(crate) enum Group {
+    StoreControl,
+    SystemMasks,
+    SetStorageKey,
+    WrongTurns,
+}
+
+fn edge_of(group: Group, number: usize) -> Edge {
+    match group {
+        Group::StoreControl => store_control::edge(number),
+        Group::SystemMasks => system_masks::edge(number),
+        Group::SetStorageKey => set_storage_key::edge(number),
+        Group::WrongTurns => wrong_turns::edge(number),
+    }
+}
+
+// Runs the edges of a group, of which there are `count`. Each has its instruction and its case in a line of `cases`.
+pub(crate) fn run_each(
+    storage: &mut Storage,
+    keys: &mut Keys,
+    group: Group,
+    count: usize,
+    cases: &[u8],
+) {
+    let mut number = 0;
+    while number < count {
+        print_line(cases, number);
+        run(storage, keys, edge_of(group, number));
+        number += 1;
+    }
+}
 
 // In the first bytes of the storage and the first keys that are lent, as many as the edge has.
-pub(crate) fn run(storage: &mut [u8], keys: &mut [u8], edge: Edge, case: &[u8]) {
+fn run(storage: &mut [u8], keys: &mut [u8], edge: Edge) {
     let size = edge.size;
-    let key_count = edge.key_count;
-    print_call(edge.first, case);
-    if storage.len() < size {
-        print(b" | no room for its storage\n");
-        return;
+    let key_count = size / KEY_BLOCK;
+    if storage.len() >= size {
+        if keys.len() >= key_count {
+            run_in(&mut storage[0..size], &mut keys[0..key_count], edge);
+            return;
+        }
     }
-    if keys.len() < key_count {
-        print(b" | no room for its keys\n");
-        return;
-    }
-    run_in(&mut storage[0..size], &mut keys[0..key_count], edge);
+    print(b" | no room for its storage and keys\n");
 }
 
 fn run_in(storage: &mut [u8], keys: &mut [u8], edge: Edge) {

@@ -1,20 +1,24 @@
 // SET STORAGE KEY.
 use crate::edge::Edge;
-use crate::lent::Keys;
-use crate::lent::Storage;
-use crate::run::run;
+use crate::run::Group;
+use crate::run::Keys;
+use crate::run::Storage;
+use crate::run::run_each;
 
 pub(crate) fn run_set_storage_key(storage: &mut Storage, keys: &mut Keys) {
-    run(
+    run_each(
         storage,
         keys,
-        Edge::ssk().key(2, 0x04),
-        b"(*) R1 3F, swap word 0, old key 04, valid page, bit 20 zero",
+        Group::SetStorageKey,
+        2,
+        b"SSK   (*) R1 3F, swap word 0, old key 04, valid page, bit 20 zero\n\
+          SSK   (*) R1 3F, swap word 0, old key 04, valid page, bit 20 one\n",
     );
-    run(
-        storage,
-        keys,
-        Edge::ssk().r2(0x00023800).key(3, 0x04),
-        b"(*) R1 3F, swap word 0, old key 04, valid page, bit 20 one",
-    );
+}
+
+pub(crate) fn edge(number: usize) -> Edge {
+    match number {
+        0 => Edge::ssk().key(2, 0x04),
+        _ => Edge::ssk().r2(0x00023800).key(3, 0x04),
+    }
 }

@@ -5,6 +5,24 @@ pub(crate) fn print(text: &[u8]) {
     io::write_all(STDOUT_FILENO, text);
 }
 
+// The line of a text that has this number, from 0, without its line feed.
+pub(crate) fn print_line(text: &[u8], number: usize) {
+    let mut to_pass = number;
+    let mut i = 0;
+    while i < text.len() {
+        if text[i] != b'\n' {
+            if to_pass == 0 {
+                print(&text[i..i + 1]);
+            }
+        } else if to_pass == 0 {
+            return;
+        } else {
+            to_pass -= 1;
+        }
+        i += 1;
+    }
+}
+
 pub(crate) fn print_decimal(number: u32) {
     io::print_decimal(STDOUT_FILENO, number as u64);
 }
@@ -19,7 +37,8 @@ pub(crate) fn print_hex(number: u64, width: usize) {
 fn print_in_upper_case(digits: &[u8]) {
     let mut i = 0;
     while i < digits.len() {
-        print_digit(digits[i]);
+        let digit = [upper_case(digits[i])];
+        print(&digit);
         i += 1;
     }
 }
@@ -29,9 +48,4 @@ fn upper_case(digit: u8) -> u8 {
         return digit;
     }
     digit - (b'a' - b'A')
-}
-
-fn print_digit(digit: u8) {
-    let character = [upper_case(digit)];
-    print(&character);
 }

@@ -14,28 +14,23 @@ pub(crate) fn clear(bytes: &mut [u8], count: u32) -> bool {
     true
 }
 
-// A word, big-endian; false where one of its bytes isn't there.
-pub(crate) fn put_word(bytes: &mut [u8], count: u32, at: u32, word: u32) -> bool {
+// The last `size` bytes of a word, big-endian; false where one of their places isn't there.
+pub(crate) fn put(bytes: &mut [u8], count: u32, at: u32, word: u32, size: u32) -> bool {
     let n = count as usize;
-    let i = at as usize;
+    let start = at as usize;
+    let end = start + size as usize;
     if n > bytes.len() {
         return false;
     }
-    if n < i + 4 {
+    if end > n {
         return false;
     }
-    bytes[i] = (word / 16777216) as u8;
-    bytes[i + 1] = (word / 65536 % 256) as u8;
-    bytes[i + 2] = (word / 256 % 256) as u8;
-    bytes[i + 3] = (word % 256) as u8;
-    true
-}
-
-pub(crate) fn put_byte(bytes: &mut [u8], count: u32, at: u32, value: u8) -> bool {
-    let i = at as usize;
-    if at >= count || i >= bytes.len() {
-        return false;
+    let mut rest = word;
+    let mut i = end;
+    while i > start {
+        i -= 1;
+        bytes[i] = (rest % 256) as u8;
+        rest = rest / 256;
     }
-    bytes[i] = value;
     true
 }

@@ -1,11 +1,5 @@
 // The lines that give a record, make a call, and end the input.
 use crate::checksum;
-use crate::digits::Number;
-use crate::digits::ends;
-use crate::digits::field;
-use crate::lines::Fields;
-use crate::lines::two;
-use crate::lines::whole;
 use crate::report;
 use crate::state::State;
 use crate::state::Step;
@@ -13,78 +7,26 @@ use crate::state::Trouble;
 use rules::Guest;
 
 // The guest's record: PSW bits 0-31, PSW bits 32-63, general registers 0 to 15, control registers 0, 1 and 6.
-pub(crate) fn new_record(record: &mut [u32; 21], state: State) -> Step {
-    let mut line = [0u8; 190];
-    if !whole(&mut line) {
-        return Step::Stopped(Trouble::Ends);
-    }
-    if !words(&line, record) || !ends(&line) {
-        return Step::Stopped(Trouble::Form);
-    }
-    let next = state.past(checksum::over(state.sum, &line));
-    Step::Next(next.with_record())
+pub(crate) fn new_record(record: &mut [u32; 21], words: &[u32; 21], state: State) -> Step {
+    *record = *words;
+    let mut next = state;
+    next.has_record = true;
+    Step::Next(next)
 }
 
 // One attempt: the first halfword, whether the expanded assist is installed, and the checksum.
-pub(crate) fn call(storage: &mut [u8], keys: &mut [u8], record: &[u32; 21], state: State) -> Step {
-    let mut line = [0u8; 17];
-    if !whole(&mut line) {
-        return Step::Stopped(Trouble::Ends);
-    }
-    let Number::Value(first) = field(&line, 0, 4) else {
-        return Step::Stopped(Trouble::Form);
-    };
-    let Number::Value(installed) = field(&line, 5, 1) else {
-        return Step::Stopped(Trouble::Form);
-    };
-    let Number::Value(sum) = field(&line, 7, 8) else {
-        return Step::Stopped(Trouble::Form);
-    };
-    if installed > 1 || !ends(&line) {
-        return Step::Stopped(Trouble::Form);
-    }
-    if sum != checksum::finish(checksum::over_first(state.sum, &line, 7)) {
-        return Step::Stopped(Trouble::Checksum);
-    }
-    if !state.has_storage || !state.has_record {
-        return Step::Stopped(Trouble::Early);
-    }
-    attempt(
-        storage,
-        keys,
-        guest_of(record),
-        (first % 65536) as u16,
-        installed == 1,
-        state.called(),
-    )
-}
-
-// The end: the number of calls and the last checksum.
-pub(crate) fn end(state: State) -> Step {
-    let mut line = [0u8; 19];
-    match two(&mut line, 8, 8) {
-        Fields::Two(calls, sum) => {
-            if sum != checksum::finish(checksum::over_first(state.sum, &line, 9)) {
-                return Step::Stopped(Trouble::Checksum);
-            }
-            if calls != state.calls {
-                return Step::Stopped(Trouble::Calls);
-            }
-            Step::Finished
-        }
-        Fields::Bad(trouble) => Step::Stopped(trouble),
-    }
-}
-
-// Makes the call on the bytes and keys that are there.
-fn attempt(
+pub(crate) fn call(
     storage: &mut [u8],
     keys: &mut [u8],
-    guest: Guest,
-    first: u16,
-    installed: bool,
+    record: &[u32; 21],
+    numbers: &[u32; 21],
     state: State,
 ) -> Step {
+    let installed = numbers[1];
+    let checked = called(installed, numbers[2], state);
+    let Step::Next(next) = checked else {
+        return checked;
+    };
     let size = state.size as usize;
     let count = state.keys as usize;
     if size > storage.len() {
@@ -93,18 +35,47 @@ fn attempt(
     if count > keys.len() {
         return Step::Stopped(Trouble::Room);
     }
-    attempt_and_report(
+    let first = (numbers[0] % 65536) as u16;
+    attempt(
         &mut storage[0..size],
         &mut keys[0..count],
-        guest,
+        guest_of(record),
         first,
-        installed,
-        state.calls,
+        installed == 1,
+        next.calls,
     );
-    Step::Next(state)
+    Step::Next(next)
 }
 
-fn attempt_and_report(
+// One call on, where nothing speaks against it: the checksum begins anew.
+fn called(installed: u32, sum: u32, state: State) -> Step {
+    if installed > 1 {
+        return Step::Stopped(Trouble::Form);
+    }
+    if sum != checksum::finish(state.sum) {
+        return Step::Stopped(Trouble::Checksum);
+    }
+    if !state.has_storage || !state.has_record {
+        return Step::Stopped(Trouble::Early);
+    }
+    let mut next = state;
+    next.sum = checksum::START;
+    next.calls = std::num::wrapping_add_u32(state.calls, 1);
+    Step::Next(next)
+}
+
+// The end: the number of calls and the last checksum.
+pub(crate) fn end(calls: u32, sum: u32, state: State) -> Step {
+    if sum != checksum::finish(state.sum) {
+        return Step::Stopped(Trouble::Checksum);
+    }
+    if calls != state.calls {
+        return Step::Stopped(Trouble::Calls);
+    }
+    Step::Finished
+}
+
+fn attempt(
     storage: &mut [u8],
     keys: &mut [u8],
     guest: Guest,
@@ -117,19 +88,6 @@ fn attempt_and_report(
     let over_keys = checksum::over(over_storage, keys);
     let sum = checksum::finish(report::over_record(over_keys, answer.guest));
     report::answer(number, answer, sum);
-}
-
-// The 21 words of a record's line; false where one isn't of the form.
-fn words(line: &[u8], record: &mut [u32; 21]) -> bool {
-    let mut i = 0;
-    while i < 21 {
-        let Number::Value(word) = field(line, i * 9, 8) else {
-            return false;
-        };
-        record[i] = word;
-        i += 1;
-    }
-    true
 }
 
 fn guest_of(record: &[u32; 21]) -> Guest {

@@ -30,12 +30,6 @@ pub(crate) fn field(line: &[u8], at: usize, digits: usize) -> Number {
     Number::Value(value)
 }
 
-// Whether the line's last character is a line feed.
-pub(crate) fn ends(line: &[u8]) -> bool {
-    let n = line.len();
-    n > 0 && line[n - 1] == b'\n'
-}
-
 // The value of a digit's character; 16 where it is none.
 fn digit(c: u32) -> u32
     ensures { λ r. ⌜ r ≤ 16 ⌝ }

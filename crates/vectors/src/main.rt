@@ -20,28 +20,6 @@ const LARGE_STORAGE_BYTES: usize = 16779264;
 // More than the 8,193 keys of that storage.
 const KEY_COUNT: usize = 8448;
 
-// One line of the input.
-fn step(storage: &mut [u8], keys: &mut [u8], record: &mut [u32; 21], state: State) -> Step {
-    let mut kind = [0u8; 1];
-    if !lines::whole(&mut kind) {
-        return Step::Stopped(Trouble::Ends);
-    }
-    let mut next = state;
-    next.sum = checksum::over(state.sum, &kind);
-    match kind[0] {
-        b'#' => lines::comment(next),
-        b's' => lines::new_storage(storage, keys, next),
-        b'w' => lines::four(storage, next.size, next),
-        b'b' => lines::one(storage, next.size, next),
-        b'q' => lines::four(keys, next.keys, next),
-        b'k' => lines::one(keys, next.keys, next),
-        b'r' => calls::new_record(record, next),
-        b'a' => calls::call(storage, keys, record, next),
-        b'e' => calls::end(next),
-        _ => Step::Stopped(Trouble::Kind),
-    }
-}
-
 // After the end nothing follows.
 fn finish(state: State) {
     let mut more = [0u8; 1];
@@ -60,7 +38,7 @@ fn run(storage: &mut [u8], keys: &mut [u8]) {
     let mut turns = u64::MAX;
     while turns > 0 {
         turns -= 1;
-        match step(storage, keys, &mut record, state) {
+        match lines::step(storage, keys, &mut record, state) {
             Step::Next(next) => {
                 state = next;
             }

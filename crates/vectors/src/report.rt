@@ -5,6 +5,10 @@ use libc::STDOUT_FILENO;
 use rules::Answer;
 use rules::Guest;
 
+pub(crate) fn print(text: &[u8]) {
+    io::write_all(STDOUT_FILENO, text);
+}
+
 // The line of a call: its number, the ending, the code or step, the count, the logical address, the next address, and
 // the checksum of all that is there afterwards.
 pub(crate) fn answer(number: u32, given: Answer, sum: u32) {
@@ -17,37 +21,30 @@ pub(crate) fn answer(number: u32, given: Answer, sum: u32) {
     hex(ending.address(), 6);
     hex(guest.instruction_address(), 6);
     io::print_hex(STDOUT_FILENO, sum as u64, 8);
-    io::write_all(STDOUT_FILENO, b"\n");
+    print(b"\n");
 }
 
 pub(crate) fn finished(calls: u32) {
     decimal(calls);
-    io::write_all(STDOUT_FILENO, b"calls\n");
+    print(b"calls\n");
 }
 
 // The trouble is in the line that is so many after those that were read.
 pub(crate) fn stopped(lines: u64, after: u64, trouble: Trouble) {
-    io::write_all(STDOUT_FILENO, b"stopped at line ");
+    print(b"stopped at line ");
     io::print_decimal(STDOUT_FILENO, std::num::wrapping_add_u64(lines, after));
-    io::write_all(STDOUT_FILENO, b": ");
+    print(b": ");
     match trouble {
-        Trouble::Kind => io::write_all(STDOUT_FILENO, b"unknown kind of line\n"),
-        Trouble::Ends => io::write_all(STDOUT_FILENO, b"the input ends here\n"),
-        Trouble::Form => io::write_all(STDOUT_FILENO, b"not of the form that its kind has\n"),
-        Trouble::Room => io::write_all(
-            STDOUT_FILENO,
-            b"more storage or keys than this program holds\n",
-        ),
-        Trouble::Place => io::write_all(
-            STDOUT_FILENO,
-            b"an address or key number that is not there\n",
-        ),
-        Trouble::Early => io::write_all(STDOUT_FILENO, b"a call before its storage and record\n"),
-        Trouble::Checksum => io::write_all(STDOUT_FILENO, b"wrong checksum: the text is damaged\n"),
-        Trouble::Calls => io::write_all(STDOUT_FILENO, b"wrong number of calls at the end\n"),
-        Trouble::After => io::write_all(STDOUT_FILENO, b"text after the end\n"),
+        Trouble::Kind => print(b"unknown kind of line\n"),
+        Trouble::Ends => print(b"the input ends here\n"),
+        Trouble::Form => print(b"not of the form that its kind has\n"),
+        Trouble::Room => print(b"more storage or keys than this program holds\n"),
+        Trouble::Place => print(b"an address or key number that is not there\n"),
+        Trouble::Early => print(b"a call before its storage and record\n"),
+        Trouble::Checksum => print(b"wrong checksum: the text is damaged\n"),
+        Trouble::Calls => print(b"wrong number of calls at the end\n"),
+        Trouble::After => print(b"text after the end\n"),
     }
-    ;
 }
 
 // The checksum's register after a record.
@@ -67,10 +64,10 @@ pub(crate) fn over_record(register: u32, guest: Guest) -> u32 {
 
 fn decimal(n: u32) {
     io::print_decimal(STDOUT_FILENO, n as u64);
-    io::write_all(STDOUT_FILENO, b" ");
+    print(b" ");
 }
 
 fn hex(n: u32, width: usize) {
     io::print_hex(STDOUT_FILENO, n as u64, width);
-    io::write_all(STDOUT_FILENO, b" ");
+    print(b" ");
 }

@@ -2,8 +2,9 @@
 use crate::checksum;
 
 pub(crate) struct State {
-    // lines read
+    // lines read, and the first character of the last
     pub(crate) lines: u64,
+    pub(crate) kind: u8,
     // calls made
     pub(crate) calls: u32,
     // the checksum's register
@@ -38,6 +39,7 @@ impl State {
     pub(crate) fn new() -> State {
         State {
             lines: 0,
+            kind: 0,
             calls: 0,
             sum: checksum::START,
             size: 0,
@@ -45,34 +47,5 @@ impl State {
             has_storage: false,
             has_record: false,
         }
-    }
-
-    // One line on, with these characters summed.
-    pub(crate) fn past(self, sum: u32) -> State {
-        let mut next = self;
-        next.lines = std::num::wrapping_add_u64(self.lines, 1);
-        next.sum = sum;
-        next
-    }
-
-    pub(crate) fn with_storage(self, size: u32, keys: u32) -> State {
-        let mut next = self;
-        next.size = size;
-        next.keys = keys;
-        next.has_storage = true;
-        next
-    }
-
-    pub(crate) fn with_record(self) -> State {
-        let mut next = self;
-        next.has_record = true;
-        next
-    }
-
-    // One call on: the checksum begins anew.
-    pub(crate) fn called(self) -> State {
-        let mut next = self.past(checksum::START);
-        next.calls = std::num::wrapping_add_u32(self.calls, 1);
-        next
     }
 }

@@ -1,6 +1,7 @@
 use Prim.Native.Nat.{_≤_, _-_}
 use lib.ListN.{length}
 use native.Mathlib.Omega.{arith}
+use borrow.Author.Needs.{needs}
 use Rattle.edges.proofs.text.print_in_upper_case.Statement.{statement}
 use Rattle.edges.proofs.text.print_in_upper_case.Tie as tie
 
@@ -16,10 +17,12 @@ print-in-upper-case-spec =
     (tie.spec
     Inv-loop
     μ-loop
+    (λ c. search needs)
+    (λ c. search needs)
+    (λ c κs. search needs)
+    (λ c. search needs)
+    (λ c κs. search needs)
+    (λ c. search needs)
     (λ c. omega arith)
-    (λ c. omega arith)
-    (λ c κs. tt)
-    (λ c. omega arith)
-    (λ c. omega arith)
-    (λ c. omega arith)
-    (λ c. tt))
+    (λ c. search needs)
+    (λ c. search needs))

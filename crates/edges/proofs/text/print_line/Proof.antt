@@ -1,27 +1,29 @@
-use Prim.Native.Nat.{_-_, _≤_}
+use Prim.Native.Nat.{_≤_, _-_}
+use lib.ListN.{length}
 use native.Mathlib.Omega.{arith}
 use borrow.Author.Needs.{needs}
-use Rattle.vectors.proofs.calls.words.Statement.{statement}
-use Rattle.vectors.proofs.calls.words.Tie as tie
+use Rattle.edges.proofs.text.print_line.Statement.{statement}
+use Rattle.edges.proofs.text.print_line.Tie as tie
 
 abbrev Inv-loop : tie.InvT-loop
-Inv-loop line record₀ i₀ «record» i = i ≤ 21
+Inv-loop text number to-pass₀ i₀ to-pass i = i ≤ length text
 
 abbrev μ-loop : tie.MeasureT-loop
-μ-loop line record₀ i₀ «record» i = 21 - i
+μ-loop text number to-pass₀ i₀ to-pass i = length text - i
 
-pub words-spec : {M : Type 1} → statement M
-words-spec =
+pub print-line-spec : {M : Type 1} → statement M
+print-line-spec =
     tie.close
     (tie.spec
     Inv-loop
     μ-loop
     (λ c. search needs)
     (λ c. search needs)
+    (λ c. search needs)
+    (λ c. search needs)
+    (λ c. search needs)
+    (λ c. search needs)
     (λ c κs. search needs)
-    (λ c. search needs)
-    (λ c. search needs)
-    (λ c. search needs)
     (λ c. search needs)
     (λ c. search needs)
     (λ c. search needs)

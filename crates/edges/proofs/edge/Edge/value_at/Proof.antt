@@ -1,7 +1,7 @@
 use Prim.Native.Nat.{_≤_, _-_}
 use native.Mathlib.Omega.{arith}
-use Rattle.edges.proofs.patches.Patches.value_at.Statement.{statement}
-use Rattle.edges.proofs.patches.Patches.value_at.Tie as tie
+use Rattle.edges.proofs.edge.Edge.value_at.Statement.{statement}
+use Rattle.edges.proofs.edge.Edge.value_at.Tie as tie
 
 abbrev Inv-loop : tie.InvT-loop
 Inv-loop place otherwise self value₀ i₀ value i = i ≤ 8

@@ -69,11 +69,12 @@ pub fn store_test(storage: &[u8], keys: &mut [u8], guest: Guest, at: u32) -> Ste
         ≡ seen (storeTest guest at) (machine (now (storage .entry)) (now (keys .entry)))
         ⌝ }
 {
+    // with DAT off a logical address is real
+    let mut walked = Stepped::Value(at, 0);
     if guest.dat_on() {
-        let walked = translate(storage, keys, guest.cr0, guest.cr1, at);
-        return walked_test(keys, true, guest.psw_key(), walked);
+        walked = translate(storage, keys, guest.cr0, guest.cr1, at);
     }
-    key_test(keys, true, guest.psw_key(), at)
+    walked_test(keys, true, guest.psw_key(), walked)
 }
 
 fn fetch_test(storage: &[u8], keys: &mut [u8], guest: Guest, at: u32) -> Stepped
@@ -82,11 +83,12 @@ fn fetch_test(storage: &[u8], keys: &mut [u8], guest: Guest, at: u32) -> Stepped
         ≡ seen (access fetchPasses guest at) (machine (now (storage .entry)) (now (keys .entry)))
         ⌝ }
 {
+    // with DAT off a logical address is real
+    let mut walked = Stepped::Value(at, 0);
     if guest.dat_on() {
-        let walked = translate(storage, keys, guest.cr0, guest.cr1, at);
-        return walked_test(keys, false, guest.psw_key(), walked);
+        walked = translate(storage, keys, guest.cr0, guest.cr1, at);
     }
-    key_test(keys, false, guest.psw_key(), at)
+    walked_test(keys, false, guest.psw_key(), walked)
 }
 
 pub fn logical_fetch(

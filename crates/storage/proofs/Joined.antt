@@ -1,7 +1,6 @@
 -- The number in an item is that of its left part and, behind it, that of its right part.
-use Prim.Native.Nat.{ℕ, suc, _+_, _*_, _<_, _≤_}
+use Prim.Native.Nat.{ℕ, _+_, _*_, _<_}
 use native.Mathlib.Omega.{arith}
-use native.Mathlib.Nat.{suc-mul, mul-le-mul-right}
 use mathlib.Core.Path.{_≡_, refl, ap, _∙_}
 use mathlib.Core.Bool.{Bool, true, false, cond, _&&_}
 use mathlib.Core.List.{List, [], _∷_, _++_}
@@ -9,21 +8,21 @@ use mathlib.Core.Option.{Option, some, none}
 use lib.ListN.{length, getD}
 use lib.Dec.{ltb}
 use Rattle.rules.specs.Machine.{_⊕_, addresses, present, valueAt}
-use Rattle.storage.specs.Items.{Item, Of, held, joined, itemAt}
+use Rattle.storage.specs.Items.{Item, Of, held, itemAt}
 
 -- the number of an item that was found is as small as the answer says
 pub below : {r : Item} {v n : ℕ} → r ≡ Of v → held r < n → v < n
 below e h = rw e at h
 
--- and so is the number of two parts
-pub joined-below : (v w n : ℕ) → v < n → w < n → v * n + w < n * n
-joined-below v w n h k =
-    let rows : v * n + n ≤ n * n = simp suc-mul at (mul-le-mul-right {m = suc v} n h) in
-    omega arith
-
 -- the bytes at these addresses, or nothing if one is not in storage
 abbrev bytesAt : (storage at : List ℕ) → Option ℕ
 bytesAt s at = cond (present (length s) at) (some (valueAt s at 0)) none
+
+-- a left part before a right one of so many values
+abbrev pub joined : (values : ℕ) → Option ℕ → Option ℕ → Option ℕ
+joined n none y = none
+joined n (some v) none = none
+joined n (some v) (some w) = some (v * n + w)
 
 present-both : (size : ℕ) (xs ys : List ℕ) → present size (xs ++ ys) ≡ (present size xs && present size ys)
 present-both size [] ys = refl

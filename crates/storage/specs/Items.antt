@@ -1,5 +1,5 @@
 -- An item of storage, as the code finds it.
-use Prim.Native.Nat.{ℕ, _+_, _*_}
+use Prim.Native.Nat.{ℕ}
 use mathlib.Core.Bool.{cond}
 use mathlib.Core.List.{List, [], _∷_}
 use mathlib.Core.Option.{Option, some, none}
@@ -28,12 +28,6 @@ found Missing = none
 abbrev pub held : Item → ℕ
 held (Of v) = v
 held Missing = 0
-
--- a left part and, behind it, a right one of so many values
-abbrev pub joined : (values : ℕ) → Option ℕ → Option ℕ → Option ℕ
-joined n none y = none
-joined n (some v) none = none
-joined n (some v) (some w) = some (v * n + w)
 
 -- the four bytes of a word
 abbrev pub wordBytes : ℕ → List ℕ

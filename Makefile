@@ -17,7 +17,7 @@ run: library
 
 test:
 	tools/shape
-	tools/places
+	tools/documents
 	cd second && cargo test --quiet
 	tools/compare-stored
 	tools/gate

@@ -12,7 +12,7 @@ use Rattle.rules.specs.Access.{realOf, access}
 use Rattle.storage.specs.declared.steps.Stepped.{Stepped}
 use Rattle.storage.specs.declared.steps.Stepped.the-variants.{Value}
 use Rattle.storage.specs.Answers.{machine, told, seen}
-use Rattle.access.specs.Walks.{keyTested, keyTest}
+use Rattle.access.specs.Walks.{keyTested}
 
 -- x, on keys k, is what was found
 module _ (g : Guest) (at : ℕ) (x : Stepped) (s k ks : List ℕ) where
@@ -32,5 +32,5 @@ module _ (g : Guest) (at : ℕ) (x : Stepped) (s k ks : List ℕ) where
 -- an access is the test of a real address that was found
 pub tested : (passes : ℕ → ℕ → Bool) (g : Guest) (at : ℕ)
     → keyTested (realOf g at) passes (pswKey g) ≡ access passes g at
-unfolding access keyTest
+unfolding access
 tested passes g at = refl

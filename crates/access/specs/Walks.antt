@@ -1,16 +1,15 @@
 -- What the answers of the walk's steps say.
-use Prim.Native.Nat.{ℕ, _/_}
-use mathlib.Core.Bool.{Bool, true, false, not}
+use Prim.Native.Nat.{ℕ}
+use mathlib.Core.Bool.{Bool, true, false}
 use Rattle.rules.specs.declared.endings.Ending.{Ending}
 use Rattle.rules.specs.declared.endings.Ending.the-variants.{Interruption}
-use Rattle.rules.specs.declared.endings.Exception.the-variants.{Protection, Addressing, TranslationSpecification}
+use Rattle.rules.specs.declared.endings.Exception.the-variants.{TranslationSpecification}
 use Rattle.rules.specs.declared.tables.Format.{Format}
 use Rattle.rules.specs.declared.tables.SegmentFault.{SegmentFault}
 use Rattle.rules.specs.Machine.{Machine}
-use Rattle.rules.specs.declared.keys.KeyUse.the-variants.{ForProtection}
-use Rattle.rules.specs.Steps.{Steps, done, _>>=_, _>>_, consultKey, stopIf}
+use Rattle.rules.specs.Steps.{Steps, _>>=_}
 use Rattle.rules.specs.Run.{View}
-use Rattle.rules.specs.Access.{storePasses, fetchPasses}
+use Rattle.rules.specs.Access.{storePasses, fetchPasses, keyTest}
 use Rattle.storage.specs.declared.steps.Stepped.{Stepped}
 use Rattle.storage.specs.declared.steps.Stepped.the-variants.{Value, Stopped}
 use Rattle.storage.specs.Answers.{went, over}
@@ -34,13 +33,6 @@ abbrev pub passesFor : (store : Bool) → (pswKey key : ℕ) → Bool
 passesFor true = storePasses
 passesFor false = fetchPasses
 
--- the end of an access test, once its address is real
-unfoldable pub keyTest : (passes : ℕ → ℕ → Bool) → (pswKey real : ℕ) → Steps ℕ
-keyTest passes held real = do
-  k ← consultKey ForProtection (real / 2048) (Interruption Addressing)
-  stopIf (not (passes held k)) (Interruption Protection)
-  done real
-
--- the same, once a program has found the address
+-- the end of an access test, once a program has found the real address
 abbrev pub keyTested : Steps ℕ → (passes : ℕ → ℕ → Bool) → (pswKey : ℕ) → Steps ℕ
-keyTested p passes held = p >>= keyTest passes held
+keyTested p passes psw = p >>= keyTest passes psw

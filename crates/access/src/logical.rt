@@ -4,10 +4,10 @@ ghost use mathlib.Core.Path.{_≡_};
 ghost use mathlib.Core.List.{List};
 ghost use Rattle.rules.specs.Machine.{Machine};
 ghost use Rattle.rules.specs.Steps.{Steps};
-ghost use Rattle.rules.specs.Access.{fetchPasses, access, storeTest, logicalFetch, secondHalfword};
+ghost use Rattle.rules.specs.Access.{fetchPasses, keyTest, access, storeTest, logicalFetch, secondHalfword};
 ghost use Rattle.storage.specs.Items.{bytesIn};
 ghost use Rattle.storage.specs.Answers.{machine, told, seen};
-ghost use Rattle.access.specs.Walks.{passesFor, keyTest, keyTested};
+ghost use Rattle.access.specs.Walks.{passesFor, keyTested};
 use crate::translation::translate;
 use rules::Ending;
 use rules::Exception;
@@ -77,6 +77,7 @@ pub fn store_test(storage: &[u8], keys: &mut [u8], guest: Guest, at: u32) -> Ste
     walked_test(keys, true, guest.psw_key(), walked)
 }
 
+// The real address of what is fetched next.
 fn fetch_test(storage: &[u8], keys: &mut [u8], guest: Guest, at: u32) -> Stepped
     ensures { λ r. ⌜
         told r (now (storage .entry)) (now (keys .exit))

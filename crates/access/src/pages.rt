@@ -68,6 +68,7 @@ pub fn real_address(format: Format, entry: u32, at: u32) -> u32
     entry / (bytes / 256) % (16777216 / bytes) * bytes + at % bytes
 }
 
+// Steps 5 and 6, by the format.
 fn page_address_by(
     storage: &[u8],
     keys: &mut [u8],

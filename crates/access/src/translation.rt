@@ -60,6 +60,7 @@ fn segment_exception(at: u32, fault: SegmentFault) -> Ending
     }
 }
 
+// The walk's answer, its faults as endings.
 fn excepted(walked: Walked, at: u32) -> Stepped
     ensures { λ r. ⌜ r ≡ endedBy (segmentException at) walked ⌝ }
 {

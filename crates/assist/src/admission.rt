@@ -31,11 +31,11 @@ pub(crate) fn is_odd(guest: Guest) -> bool
 pub(crate) fn is_assisted(operation: u32) -> bool
     ensures { λ r. ⌜ r ≡ isAssisted operation ⌝ }
 {
-    (operation == 128)
-        | (operation == 182)
-        | (operation == 172)
-        | (operation == 173)
-        | (operation == 8)
+    (operation == 0x80)
+        | (operation == 0xb6)
+        | (operation == 0xac)
+        | (operation == 0xad)
+        | (operation == 0x08)
 }
 
 // 9: real PSW bit 12 or bit 15 is zero.
@@ -45,8 +45,8 @@ pub(crate) fn is_wrong_mode(guest: Guest) -> bool
     !guest.extended_control() | !guest.problem_state()
 }
 
-// A refusal before any reference; the record is handed back as it was.
-pub(crate) fn refusal(ending: Ending, guest: Guest) -> Answer
+// One of these endings, before any reference; the record is handed back as it was.
+pub(crate) fn not_admitted(ending: Ending, guest: Guest) -> Answer
     ensures { λ r. ⌜ r ≡ answer ending 0 guest ⌝ }
 {
     Answer {

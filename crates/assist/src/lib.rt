@@ -14,7 +14,7 @@ use crate::admission::is_odd;
 use crate::admission::is_wrong_keys;
 use crate::admission::is_wrong_mode;
 use crate::admission::is_wrong_storage;
-use crate::admission::refusal;
+use crate::admission::not_admitted;
 use rules::Answer;
 use rules::Call;
 use rules::Ending;
@@ -27,13 +27,13 @@ mod admission;
 fn is_store_then(operation: u32) -> bool
     ensures { λ r. ⌜ r ≡ (eqb operation 0xac || eqb operation 0xad) ⌝ }
 {
-    (operation == 172) | (operation == 173)
+    (operation == 0xac) | (operation == 0xad)
 }
 
 fn mask_change(operation: u32) -> MaskChange
     ensures { λ r. ⌜ r ≡ changeBy (eqb operation 0xac) ⌝ }
 {
-    if operation == 172 {
+    if operation == 0xac {
         return MaskChange::And;
     }
     MaskChange::Or
@@ -47,10 +47,10 @@ fn instruction(storage: &mut [u8], keys: &mut [u8], call: Call) -> Answer
         ⌝ }
 {
     let operation = call.operation();
-    if operation == 128 {
+    if operation == 0x80 {
         return masks::set_system_mask(storage, keys, call);
     }
-    if operation == 182 {
+    if operation == 0xb6 {
         return control::store_control(storage, keys, call);
     }
     if is_store_then(operation) {
@@ -70,19 +70,19 @@ fn program(storage: &mut [u8], keys: &mut [u8], call: Call) -> Answer
 {
     let guest = call.guest;
     if is_wrong_storage(storage.len()) {
-        return refusal(Ending::WrongStorageSize, guest);
+        return not_admitted(Ending::WrongStorageSize, guest);
     }
     if is_wrong_keys(storage.len(), keys.len()) {
-        return refusal(Ending::WrongKeyCount, guest);
+        return not_admitted(Ending::WrongKeyCount, guest);
     }
     if is_odd(guest) {
-        return refusal(Ending::OddInstructionAddress, guest);
+        return not_admitted(Ending::OddInstructionAddress, guest);
     }
     if !is_assisted(call.operation()) {
-        return refusal(Ending::NotAssisted, guest);
+        return not_admitted(Ending::NotAssisted, guest);
     }
     if is_wrong_mode(guest) {
-        return refusal(Ending::WrongMode, guest);
+        return not_admitted(Ending::WrongMode, guest);
     }
     instruction(storage, keys, call)
 }

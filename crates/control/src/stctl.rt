@@ -19,25 +19,28 @@ pub fn store_control(storage: &mut [u8], keys: &mut [u8], call: Call) -> Answer
         ⌝ }
 {
     let guest = call.guest;
-    let block = control_block(storage, keys, guest);
-    let Stepped::Value(ecblok, fetched) = block else {
-        return block.ending(guest);
+    // 1 and 2
+    let field = control_block(storage, keys, guest);
+    let Stepped::Value(ecblok, count_2) = field else {
+        return field.ending(guest);
     };
-    let operand = word_operand(storage, keys, guest).after(fetched);
-    let Stepped::Value(address, read) = operand else {
+    // 3 and 4
+    let operand = word_operand(storage, keys, guest).after(count_2);
+    let Stepped::Value(address, count_4) = operand else {
         return operand.ending(guest);
     };
+    // 5: the registers, then the tests, and only then the stores
     let first = call.r1();
     let n = register_count(first, call.r2());
     let registers = virtual_registers(storage, keys, ecblok, first, n);
     let gathered = registers.last;
-    let last = gathered.after(read);
-    let Stepped::Value(_, known) = last else {
+    let last = gathered.after(count_4);
+    let Stepped::Value(_, count_5) = last else {
         return last.ending(guest);
     };
     let words = operand_words(storage, keys, guest, address, n);
     let tested = words.last;
-    let end = tested.after(known);
+    let end = tested.after(count_5);
     let Stepped::Value(_, count) = end else {
         return end.ending(guest);
     };

@@ -25,27 +25,33 @@ fn mask_operand(storage: &[u8], keys: &mut [u8], guest: Guest) -> Stepped
         ⌝ }
 {
     let refuse = Ending::Interruption(Exception::PrivilegedOperation);
+    // 1: control register 6 bits 0-1
     if guest.cr6 / 1073741824 % 4 != 2 {
         return Stepped::Stopped(refuse, 0);
     }
-    let creg = access::micblok_word(storage, keys, 2, access::MICCREG, guest);
-    let Stepped::Value(block, fetched) = creg else {
-        return creg;
+    // 2
+    let field = access::micblok_word(storage, keys, 2, access::MICCREG, guest);
+    let Stepped::Value(creg, count_2) = field else {
+        return field;
     };
-    let ecblok = access::address_in(block);
-    let word = access::control_word(storage, keys, 3, ecblok).after(fetched);
-    let Stepped::Value(control, read) = word else {
+    // 3: virtual control register 0 is the word at ECBLOK
+    let ecblok = access::address_in(creg);
+    let word = access::control_word(storage, keys, 3, ecblok).after(count_2);
+    let Stepped::Value(control, count_3) = word else {
         return word;
     };
+    // 4: its bit 1
     if control / 1073741824 % 2 == 1 {
-        return Stepped::Stopped(refuse, read);
+        return Stepped::Stopped(refuse, count_3);
     }
-    let second = access::second_halfword(storage, keys, guest).after(read);
-    let Stepped::Value(halfword, count) = second else {
+    // 5
+    let second = access::second_halfword(storage, keys, guest).after(count_3);
+    let Stepped::Value(halfword, count_5) = second else {
         return second;
     };
-    let at = guest.effective(halfword);
-    access::logical_fetch(storage, keys, guest, Width::Byte, at).after(count)
+    // 6
+    let operand = guest.effective(halfword);
+    access::logical_fetch(storage, keys, guest, Width::Byte, operand).after(count_5)
 }
 
 // A bit changes.
@@ -56,7 +62,7 @@ fn changes(old: bool, new: bool) -> bool
 }
 
 // Step 9 in the EC mode. (In the BC mode it is `any_rises_pending`.)
-fn needs_expanded(pending: bool, old: u32, new: u32) -> bool
+fn mask_needs_expanded(pending: bool, old: u32, new: u32) -> bool
     ensures { λ r. ⌜ r ≡ maskNeedsExpanded pending old new ⌝ }
 {
     changes(old / 64 % 2 == 1, new / 64 % 2 == 1)
@@ -75,19 +81,22 @@ fn mask_target(storage: &[u8], keys: &mut [u8], call: Call, new: u32) -> Stepped
         ⌝ }
 {
     let guest = call.guest;
+    // 7
     let field = access::micblok_word(storage, keys, 7, access::MICVPSW, guest);
-    let Stepped::Value(vpsw, fetched) = field else {
+    let Stepped::Value(vpsw, count_7) = field else {
         return field;
     };
+    // 8
     let at = access::address_in(vpsw);
-    let halfword = access::control_halfword(storage, keys, 8, at).after(fetched);
+    let halfword = access::control_halfword(storage, keys, 8, at).after(count_7);
     let Stepped::Value(first, count) = halfword else {
         return halfword;
     };
+    // 9
     let ec = is_extended(first);
     let pending = access::is_pending(vpsw);
     let old = mask_in(first);
-    if ec & needs_expanded(pending, old, new) {
+    if ec & mask_needs_expanded(pending, old, new) {
         return Stepped::Stopped(call.expanded(), count);
     }
     if !ec & any_rises_pending(pending, old, new) {
@@ -103,14 +112,17 @@ pub fn set_system_mask(storage: &mut [u8], keys: &mut [u8], call: Call) -> Answe
         ⌝ }
 {
     let guest = call.guest;
+    // 1 to 6
     let operand = mask_operand(storage, keys, guest);
-    let Stepped::Value(new, read) = operand else {
+    let Stepped::Value(new, count_6) = operand else {
         return operand.ending(guest);
     };
-    let target = mask_target(storage, keys, call, new).after(read);
+    // 7 to 9
+    let target = mask_target(storage, keys, call, new).after(count_6);
     let Stepped::Value(at, count) = target else {
         return target.ending(guest);
     };
+    // 10
     put_mask(storage, keys, at, new);
     storage::completed(call, 4, count, 1)
 }

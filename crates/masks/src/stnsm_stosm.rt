@@ -71,19 +71,23 @@ pub fn store_then(storage: &mut [u8], keys: &mut [u8], change: MaskChange, call:
         ⌝ }
 {
     let guest = call.guest;
+    // 1
     if !guest.assists_control() {
         let refuse = Ending::Interruption(Exception::PrivilegedOperation);
         return Stepped::Stopped(refuse, 0).ending(guest);
     }
+    // 2
     let field = access::micblok_word(storage, keys, 2, access::MICVPSW, guest);
-    let Stepped::Value(vpsw, fetched) = field else {
+    let Stepped::Value(vpsw, count_2) = field else {
         return field.ending(guest);
     };
+    // 3
     let at = access::address_in(vpsw);
-    let halfword = access::control_halfword(storage, keys, 3, at).after(fetched);
-    let Stepped::Value(first, read) = halfword else {
+    let halfword = access::control_halfword(storage, keys, 3, at).after(count_2);
+    let Stepped::Value(first, count_3) = halfword else {
         return halfword.ending(guest);
     };
+    // 4
     let old = mask_in(first);
     let new = new_mask(change, old, call.immediate());
     if needs_expanded(
@@ -93,12 +97,14 @@ pub fn store_then(storage: &mut [u8], keys: &mut [u8], change: MaskChange, call:
         old,
         new,
     ) {
-        return Stepped::Stopped(call.expanded(), read).ending(guest);
+        return Stepped::Stopped(call.expanded(), count_3).ending(guest);
     }
-    let operand = byte_operand(storage, keys, guest).after(read);
+    // 5 and 6
+    let operand = byte_operand(storage, keys, guest).after(count_3);
     let Stepped::Value(real, count) = operand else {
         return operand.ending(guest);
     };
+    // 7
     storage::store_byte(storage, keys, real, old);
     put_mask(storage, keys, at, new);
     storage::completed(call, 4, count, 2)

@@ -1,7 +1,7 @@
 -- To compute an attempt, every definition that is shut is opened: `unfolding computing`.
 use Rattle.rules.specs.Steps.{_>>=_, fetchBytes, consultKey, stopIf, endingAs}
 use Rattle.rules.specs.Translation.{formatOf, segmentEntry, pageAddress, translate}
-use Rattle.rules.specs.Access.{realOf, access, logicalFetch}
+use Rattle.rules.specs.Access.{realOf, keyTest, access, logicalFetch}
 use Rattle.rules.specs.Call.{complete}
 use Rattle.rules.specs.SetSystemMask.{maskOperand, maskTarget, setSystemMask}
 use Rattle.rules.specs.StoreControl.{gather, controlBlock, wordOperand, storeControl}
@@ -19,7 +19,8 @@ use Rattle.rules.specs.Attempt.{admitted, instruction}
 
 -- what every instruction reads by
 unfoldable pub walking : Unit {0}
-unfolding _>>=_ fetchBytes consultKey stopIf endingAs formatOf segmentEntry pageAddress translate realOf access
+unfolding _>>=_ fetchBytes consultKey stopIf endingAs formatOf segmentEntry pageAddress translate realOf keyTest
+    access
 walking = tt
 
 unfoldable pub fetching : Unit {0}

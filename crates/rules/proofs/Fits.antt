@@ -25,7 +25,7 @@ use Rattle.rules.specs.Endings.{
   refuse,
 }
 use Rattle.rules.specs.Steps.{Steps, _>>=_, fetchBytes, consultKey, stopIf}
-use Rattle.rules.specs.Access.{realOf, access, logicalFetch}
+use Rattle.rules.specs.Access.{realOf, keyTest, access, logicalFetch}
 use Rattle.rules.specs.Call.{Call, expanded, Completion}
 use Rattle.rules.specs.Theorems.Answers.{table, listed, Possible, instructionLength}
 use Rattle.rules.proofs.Computing.{walking}
@@ -91,7 +91,7 @@ realOf-within E g a x = (
 
 pub access-within : (E : Ending → Type 0) (passes : ℕ → ℕ → Bool) (g : Guest) (a : ℕ) → Exceptions E a
     → Within E Any (access passes g a) 3
-unfolding access consultKey stopIf _>>=_
+unfolding access keyTest consultKey stopIf _>>=_
 access-within E passes g a x =
     within-then E (λ real. Unit {0}) Any (λ r j k l h. tt) (realOf g a) _ 2 1 3 (omega arith)
     (realOf-within E g a x) (λ real t. (x .addressing, λ k. (λ t. x .protection, λ t. tt)))

@@ -21,14 +21,17 @@ storePasses p k = eqb p 0 || eqb p (bits 5 0 3 k)
 abbrev pub fetchPasses : (pswKey key : ℕ) → Bool
 fetchPasses p k = storePasses p k || not (bit 5 4 k)
 
--- The real address of a logical one, where the access passes. After test 11 a block has a key exactly if it is in
--- storage, so a key that is not there is a real address outside storage.
-unfoldable pub access : (passes : ℕ → ℕ → Bool) → Guest → (address : ℕ) → Steps ℕ
-access passes g a = do
-  real ← realOf g a
+-- A real address, where its key lets the access pass. After test 11 a block has a key exactly if it is in storage, so a
+-- key that is not there is a real address outside storage.
+unfoldable pub keyTest : (passes : ℕ → ℕ → Bool) → (pswKey real : ℕ) → Steps ℕ
+keyTest passes psw real = do
   k ← consultKey ForProtection (real / 2048) (Interruption Addressing)
-  stopIf (not (passes (pswKey g) k)) (Interruption Protection)
+  stopIf (not (passes psw k)) (Interruption Protection)
   done real
+
+-- the real address of a logical one, where the access passes
+unfoldable pub access : (passes : ℕ → ℕ → Bool) → Guest → (address : ℕ) → Steps ℕ
+access passes g a = realOf g a >>= keyTest passes (pswKey g)
 
 -- document 01's "store test": the real address of an operand that is stored later
 abbrev pub storeTest : Guest → (address : ℕ) → Steps ℕ

@@ -68,7 +68,7 @@ instruction c =
     (branch (eqb (operation c) 0xad) (storeThenOr c)
     (setStorageKey c))))
 
--- the whole
+-- the tests, and then the instruction
 abbrev pub program : (bytes keys : ℕ) → Call → Steps Completion
 program bytes keys = admitted bytes keys instruction
 

@@ -1,4 +1,4 @@
--- Bits of numbers. Bit 0 is leftmost, so each name says how wide its number is.
+-- Bits of numbers. Bit 0 is leftmost, so it is said each time how wide the number is.
 use Prim.Native.Nat.{ℕ, zero, suc, _+_, _-_, _/_, _%_, _^_}
 use mathlib.Core.Bool.{Bool}
 use lib.Dec.{eqb}
@@ -16,6 +16,7 @@ bits width first last x = without (width - (last + 1)) x % 2 ^ (last + 1 - first
 abbrev pub bit : (width place : ℕ) → ℕ → Bool
 bit width place x = eqb (bits width place place x) 1
 
+-- bits first to last of a word, and of a halfword
 abbrev pub word : (first last : ℕ) → ℕ → ℕ
 word = bits 32
 

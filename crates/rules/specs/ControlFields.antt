@@ -29,7 +29,8 @@ miccreg step = micblokWord step 4
 abbrev pub micvpsw : (step : ℕ) → Guest → Steps ℕ
 micvpsw step = micblokWord step 8
 
--- the address that MICCREG or MICVPSW gives: bits 8-31
+-- the address that MICCREG gives, of ECBLOK, where virtual control register r is the word at 4r; or MICVPSW, of the
+-- virtual PSW; or the word before a page table, of the swap table: bits 8-31
 abbrev pub addressIn : (field : ℕ) → ℕ
 addressIn field = word 8 31 field
 

@@ -19,7 +19,7 @@ unfoldable pub maskOperand : Guest → Steps ℕ
 maskOperand g = do
   stopIf (not (eqb (word 0 1 (g .cr6)) 0b10)) refuse  -- 1
   creg ← miccreg 2 g  -- 2
-  control ← controlWord 3 (addressIn creg)  -- 3
+  control ← controlWord 3 (addressIn creg)  -- 3: virtual control register 0
   stopIf (bit 32 1 control) refuse  -- 4
   second ← secondHalfword g  -- 5
   logicalFetch g (effective g second) 1  -- 6
@@ -43,7 +43,7 @@ maskTarget c new = do
   first ← controlHalfword 8 (addressIn vpsw)  -- 8
   let ec = extendedIn first
   stopIf (ec && maskNeedsExpanded (pending vpsw) (maskIn first) new) (expanded c)  -- 9
-  stopIf (not ec && maskRefused (pending vpsw) (maskIn first) new) refuse
+  stopIf (not ec && maskRefused (pending vpsw) (maskIn first) new) refuse  -- 9
   done (addressIn vpsw)
 
 unfoldable pub setSystemMask : Call → Steps Completion

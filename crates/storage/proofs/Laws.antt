@@ -204,7 +204,7 @@ completes {m} {m′} {t} {n} c x s ks bytes ws h a b =
     ∙ ap (λ l. record { answer = completion c bytes n (length ws); after = l }) b
     ∙ ap (finish (c .guest)) (settles (record { guest = advance (c .guest) bytes; writes = ws }) h)
 
--- another instruction's answer handed on
+-- a later stage's answer handed on
 abbrev deferred : ℕ → Finished → Finished
 deferred n f = record { answer = laterAnswer n (f .answer); after = f .after }
 

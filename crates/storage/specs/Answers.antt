@@ -17,17 +17,22 @@ use Rattle.storage.specs.Items.{Item, Of, Missing}
 pub use Rattle.storage.specs.declared.steps.Stepped.{Stepped}
 pub use Rattle.storage.specs.declared.steps.Stepped.the-variants.{Value, Stopped}
 
+-- storage and keys, as a machine of the rules
 abbrev pub machine : (storage keys : List ℕ) → Machine
 machine storage keys = record { storage = storage; keys = keys }
 
 -- ---- a step: its outcome, its count, and the machine that it leaves
 
+-- a value, after so many references, and the machine left
 abbrev pub went : {A : Type 0} → A → (count : ℕ) → Machine → View A
 went a n m = record { outcome = gave a; count = n; left = m }
 
+-- an ending, after so many references, and the machine left
 abbrev pub over : {A : Type 0} → Ending → (count : ℕ) → Machine → View A
 over e n m = record { outcome = ended e; count = n; left = m }
 
+-- what the code's answer says, with the storage and keys that it leaves. A function's promise is that this is `seen` of
+-- the reading program that the function follows.
 abbrev pub told : Stepped → (storage keys : List ℕ) → View ℕ
 told (Value v n) storage keys = went v n (machine storage keys)
 told (Stopped e n) storage keys = over e n (machine storage keys)
@@ -57,13 +62,16 @@ pub record Finished : Type 0 where
   pub answer : Answer
   pub after : Machine
 
+-- what the code answers, with the storage and keys that it leaves. An instruction's promise is that this is `finish` of
+-- what is seen of its reading program.
 abbrev pub finished : Answer → (storage keys : List ℕ) → Finished
 finished answer storage keys = record { answer = answer; after = machine storage keys }
 
 abbrev pub answer : Ending → (count : ℕ) → Guest → Answer
 answer e n g = record { ending = e; count = n; guest = g }
 
--- completion makes the writes; every other ending hands the record back as it was
+-- what `conclude` of the rules makes of a run, here of what is seen of it: completion makes the writes; every other
+-- ending hands the record back as it was
 abbrev pub finish : Guest → View Completion → Finished
 finish g x = by (x .outcome) (x .count) (x .left)
   where

@@ -8,7 +8,7 @@ use rules::Ending;
 use rules::Guest;
 
 impl Stepped {
-    // A step that stopped ends the attempt; the record is handed back as it was.
+    // A step that stopped ends the attempt; the record is handed back as it was. (No caller hands over a value.)
     pub fn ending(self, guest: Guest) -> Answer
         ensures { λ r. ⌜ r ≡ ending self guest ⌝ }
     {

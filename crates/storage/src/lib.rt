@@ -1,4 +1,7 @@
 // Items of storage, keys and stores, each at a real address, and the answer of a step of a reading program.
+//
+// Every function that reads or stores, here and above, is lent the keys to change. None that reads changes them yet:
+// change request R-13 records references in them at each access, and will then change this crate and no signature.
 
 mod answers;
 mod items;

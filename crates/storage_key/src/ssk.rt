@@ -34,12 +34,13 @@ fn set_block_key(
         ⌝ }
 {
     let consulted = storage::consult_key(keys, KeyUse::Whole, block, Ending::FieldMissing(11));
-    let Stepped::Value(old, known) = consulted else {
+    let Stepped::Value(old, count) = consulted else {
         return consulted.ending(call.guest);
     };
+    // 11, and then 12
     storage::set_key(keys, block, new_key(key_word(call), old));
     storage::store_word(storage, keys, place, swap_word(call, word, old / 2 % 4));
-    storage::completed(call, 2, known, 2)
+    storage::completed(call, 2, count, 2)
 }
 
 // Steps 7 to 12, for a format, a segment entry and an address.
@@ -59,19 +60,24 @@ fn set_key_in(
         ⌝ }
 {
     let guest = call.guest;
+    // 7
     let found = swap_word_at(storage, keys, format, segment, at);
-    let Stepped::Value(place, fetched) = found else {
+    let Stepped::Value(place, count_7) = found else {
         return found.ending(guest);
     };
-    let field = access::control_word(storage, keys, 8, place).after(fetched);
-    let Stepped::Value(word, read) = field else {
+    // 8
+    let field = access::control_word(storage, keys, 8, place).after(count_7);
+    let Stepped::Value(word, count_8) = field else {
         return field.ending(guest);
     };
-    let entry = page_of(storage, keys, format, segment, at).after(read);
+    // 9 and 10
+    let entry = page_of(storage, keys, format, segment, at).after(count_8);
     let Stepped::Value(page, count) = entry else {
         return entry.ending(guest);
     };
+    // 11
     if access::is_invalid(format, page) {
+        // 12
         storage::store_word(storage, keys, place, swap_word(call, word, 0));
         return storage::completed(call, 2, count, 1);
     }
@@ -90,15 +96,18 @@ pub fn set_storage_key(storage: &mut [u8], keys: &mut [u8], call: Call) -> Answe
 {
     let guest = call.guest;
     let at = address_word(call) % 16777216;
+    // 1 to 3
     let table = segment_table(storage, keys, call);
-    let Stepped::Value(rseg, fetched) = table else {
+    let Stepped::Value(rseg, count_3) = table else {
         return table.ending(guest);
     };
+    // 4 to 6
     let format = format_in(rseg);
     let walked = access::segment_entry(storage, keys, format, rseg, at);
-    let entry = refused(walked).after(fetched);
+    let entry = refused(walked).after(count_3);
     let Stepped::Value(segment, count) = entry else {
         return entry.ending(guest);
     };
+    // 7 to 12
     storage::answer_after(set_key_in(storage, keys, call, format, segment, at), count)
 }

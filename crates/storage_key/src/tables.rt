@@ -1,6 +1,6 @@
 // Steps 1 to 10: the way to the swap word and the page.
 ghost use mathlib.Core.Path.{_≡_};
-ghost use Rattle.rules.specs.SetStorageKey.{formatIn, segmentRefusal, segmentTable, swapWordAt, pageOf};
+ghost use Rattle.rules.specs.SetStorageKey.{formatIn, segmentEnding, segmentTable, swapWordAt, pageOf};
 ghost use Rattle.storage.specs.Answers.{machine, told, seen};
 ghost use Rattle.access.specs.Walks.{endedBy};
 use crate::keys::address_word;
@@ -23,13 +23,16 @@ pub(crate) fn segment_table(storage: &[u8], keys: &mut [u8], call: Call) -> Step
 {
     let refuse = Ending::Interruption(Exception::PrivilegedOperation);
     let guest = call.guest;
+    // 1: control register 6 bits 0-2, and bits 28-31 of the address
     if (guest.cr6 / 536870912 % 8 != 4) | (address_word(call) % 16 != 0) {
         return Stepped::Stopped(refuse, 0);
     }
+    // 2
     let field = access::micblok_word(storage, keys, 2, access::MICRSEG, guest);
     let Stepped::Value(rseg, count) = field else {
         return field;
     };
+    // 3: bit 30
     if rseg / 2 % 2 == 1 {
         return Stepped::Stopped(refuse, count);
     }
@@ -53,8 +56,8 @@ pub(crate) fn format_in(rseg: u32) -> Format
 }
 
 // Steps 4 to 6: an entry that is not in storage gives 3, all other faults refuse.
-fn segment_refusal(fault: SegmentFault) -> Ending
-    ensures { λ r. ⌜ r ≡ segmentRefusal fault ⌝ }
+fn segment_ending(fault: SegmentFault) -> Ending
+    ensures { λ r. ⌜ r ≡ segmentEnding fault ⌝ }
 {
     let refuse = Ending::Interruption(Exception::PrivilegedOperation);
     match fault {
@@ -66,16 +69,17 @@ fn segment_refusal(fault: SegmentFault) -> Ending
     }
 }
 
+// The walk's answer, its faults as endings.
 pub(crate) fn refused(walked: Walked) -> Stepped
-    ensures { λ r. ⌜ r ≡ endedBy segmentRefusal walked ⌝ }
+    ensures { λ r. ⌜ r ≡ endedBy segmentEnding walked ⌝ }
 {
     match walked {
         Walked::Entry(entry, count) => Stepped::Value(entry, count),
-        Walked::Fault(fault, count) => Stepped::Stopped(segment_refusal(fault), count),
+        Walked::Fault(fault, count) => Stepped::Stopped(segment_ending(fault), count),
     }
 }
 
-// Step 7: the address of the swap word, from the word at the page-table origin less 4.
+// Step 7, the word at the page-table origin less 4; and step 8's address, of the swap word.
 pub(crate) fn swap_word_at(
     storage: &[u8],
     keys: &mut [u8],

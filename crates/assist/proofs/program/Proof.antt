@@ -29,7 +29,7 @@ returns : tie.Need-returns
 unfolding admitted storage
 returns c =
     let test = storage (c .before .before) in
-    stopped-with (test .start .args .call .guest) (c .refusal .result) test (c .refusal .ensures)
+    stopped-with (test .start .args .call .guest) (c .not-admitted .result) test (c .not-admitted .ensures)
     (c .before .if1 .taken)
 
 -- 11
@@ -43,7 +43,7 @@ returns-2 : tie.Need-returns-2
 unfolding admitted storage keys
 returns-2 c =
     let test = keys (c .before .before) in
-    stopped-with (test .start .args .call .guest) (c .refusal2 .result) test (c .refusal2 .ensures)
+    stopped-with (test .start .args .call .guest) (c .not-admitted2 .result) test (c .not-admitted2 .ensures)
     (c .before .if2 .taken)
 
 -- 12
@@ -57,7 +57,7 @@ returns-3 : tie.Need-returns-3
 unfolding admitted storage keys odd
 returns-3 c =
     let test = odd (c .before .before) in
-    stopped-with (test .start .args .call .guest) (c .refusal3 .result) test (c .refusal3 .ensures)
+    stopped-with (test .start .args .call .guest) (c .not-admitted3 .result) test (c .not-admitted3 .ensures)
     (c .before .if3 .taken)
 
 -- 13
@@ -73,7 +73,7 @@ returns-4 : tie.Need-returns-4
 unfolding admitted storage keys odd assisted
 returns-4 c =
     let test = assisted (c .before .before) in
-    stopped-with (test .start .args .call .guest) (c .refusal4 .result) test (c .refusal4 .ensures)
+    stopped-with (test .start .args .call .guest) (c .not-admitted4 .result) test (c .not-admitted4 .ensures)
     (c .before .if4 .taken)
 
 -- 9
@@ -87,7 +87,7 @@ returns-5 : tie.Need-returns-5
 unfolding admitted storage keys odd assisted mode
 returns-5 c =
     let test = mode (c .before .before) in
-    stopped-with (test .start .args .call .guest) (c .refusal5 .result) test (c .refusal5 .ensures)
+    stopped-with (test .start .args .call .guest) (c .not-admitted5 .result) test (c .not-admitted5 .ensures)
     (c .before .if5 .taken)
 
 -- and then the instruction

@@ -7,7 +7,7 @@ use Rattle.rules.specs.Steps.{_>>=_, fetchBytes, stopIf}
 use Rattle.rules.specs.Translation.{Format, segmentEntry}
 use Rattle.rules.specs.Call.{Call}
 use Rattle.rules.specs.SetStorageKey.{
-  segmentRefusal,
+  segmentEnding,
   setKeyIn,
   segmentTable,
   setStorageKey,
@@ -38,7 +38,7 @@ setKeyIn-fits c f segment a = (
   ),
 )
 
-segmentEntry-within : (f : Format) (table a : ℕ) → Within (Stops 0x08) Any (segmentEntry segmentRefusal f table a) 1
+segmentEntry-within : (f : Format) (table a : ℕ) → Within (Stops 0x08) Any (segmentEntry segmentEnding f table a) 1
 unfolding walking
 segmentEntry-within f table a = (
   λ t. stops refl refl refl,
@@ -58,7 +58,7 @@ setStorageKey-fits c = (
       λ t. stops refl refl refl,
       λ t.
           let a = word 8 31 (addressWord c) in
-          fits-then 0x08 c (segmentEntry segmentRefusal (formatIn rseg) rseg a) _ 1 6 7 (omega arith)
+          fits-then 0x08 c (segmentEntry segmentEnding (formatIn rseg) rseg a) _ 1 6 7 (omega arith)
           (segmentEntry-within _ _ _) (λ segment. setKeyIn-fits c _ segment _),
     ),
   ),

@@ -1,4 +1,5 @@
--- Ending 3 at each control field of each instruction: the step that it carries, and the count before it.
+-- Ending 3 at each control field of each instruction, and at SSK's key block: the step that it carries, and the count
+-- before it.
 -- One table, under one statement. Storage ends at 1000.
 use Prim.Native.Nat.{ℕ}
 use mathlib.Core.Bool.{true}
@@ -7,8 +8,8 @@ use Rattle.rules.specs.Machine.{Write, store}
 use Rattle.rules.specs.Theorems.Samples.{Row, Hold, endsWith, machineWith, guestWith, callOf, callWith}
 
 -- a MICBLOK at another address
-abbrev blockAt : (micblok first step count : ℕ) → List Write → Row
-blockAt micblok first step count own =
+abbrev micblokAt : (micblok first step count : ℕ) → List Write → Row
+micblokAt micblok first step count own =
     endsWith (machineWith own) (callOf (guestWith 0x1c 0 micblok) first true) 3 step count
 
 -- the sample machine, but for a few words
@@ -18,24 +19,24 @@ fieldAt first step count own = endsWith (machineWith own) (callWith first 0 true
 abbrev pub missingFields : List Row
 missingFields =
     -- SSM: MICCREG, with MICBLOK past the end; virtual control register 0, past the end and partly so
-    blockAt 0x80001000 0x8000 2 0 []
+    micblokAt 0x80001000 0x8000 2 0 []
     ∷ fieldAt 0x8000 3 1 (store 0x0c 4 0x1000 ∷ [])
     ∷ fieldAt 0x8000 3 1 (store 0x0c 4 0x0ffd ∷ [])
     -- MICVPSW, with MICBLOK at the last eight bytes; the virtual PSW, past the end and partly so
-    ∷ blockAt 0x80000ff8 0x8000 7 6 (store 0xffc 4 0x60 ∷ [])
+    ∷ micblokAt 0x80000ff8 0x8000 7 6 (store 0xffc 4 0x60 ∷ [])
     ∷ fieldAt 0x8000 8 7 (store 0x10 4 0x1000 ∷ [])
     ∷ fieldAt 0x8000 8 7 (store 0x10 4 0x0fff ∷ [])
     -- STCTL: MICCREG; registers 0 to 14 in storage, and register 15 not
-    ∷ blockAt 0x80001000 0xb60f 2 0 []
+    ∷ micblokAt 0x80001000 0xb60f 2 0 []
     ∷ fieldAt 0xb60f 5 18 (store 0x0c 4 0x0fc4 ∷ [])
     -- STNSM and STOSM: MICVPSW; the virtual PSW
-    ∷ blockAt 0x80001000 0xac00 2 0 []
+    ∷ micblokAt 0x80001000 0xac00 2 0 []
     ∷ fieldAt 0xac00 3 1 (store 0x10 4 0x0fff ∷ [])
-    ∷ blockAt 0x80001000 0xad00 2 0 []
+    ∷ micblokAt 0x80001000 0xad00 2 0 []
     ∷ fieldAt 0xad00 3 1 (store 0x10 4 0x0fff ∷ [])
     -- SSK: MICRSEG; the segment entry; the swap-table address, before a page table at 000000; the swap word;
     -- the page entry, with the page table at the end of storage; the key block, of frame 0FF
-    ∷ blockAt 0x80001000 0x0812 2 0 []
+    ∷ micblokAt 0x80001000 0x0812 2 0 []
     ∷ fieldAt 0x0812 5 1 (store 0x08 4 0x1000 ∷ [])
     ∷ fieldAt 0x0812 7 2 (store 0xc0 4 0x0000 ∷ [])
     ∷ fieldAt 0x0812 8 3 (store 0xcc 4 0x0ffd ∷ [])

@@ -28,7 +28,8 @@ machineWith own = performAll (record { storage = replicate 4096 0; keys = 0x04 �
     ∷ store 0xcc 4 0xe0
     ∷ registersFrom 0x60 0 16 ++ own)
 
--- The EC mode and the problem state, key zero, the instruction at an address; R1 holds 3F, R2 an address.
+-- The EC mode and the problem state, key zero, the instruction at an address; general register 1 holds 3F, and general
+-- register 2 an address.
 abbrev pub guestWith : (instruction r2 cr6 : ℕ) → Guest
 guestWith instruction r2 cr6 = record {
   psw = 2 ^ 51 + 2 ^ 48 + instruction;

@@ -4,10 +4,11 @@ use mathlib.Core.Bool.{not}
 use mathlib.Core.List.{List}
 use Rattle.rules.specs.Machine.{Machine}
 use Rattle.rules.specs.Steps.{Steps}
+use Rattle.rules.specs.Access.{keyTest}
 use Rattle.storage.specs.Answers.{machine}
 use Rattle.storage.proofs.Laws.{begin, fresh, settles}
 use Rattle.storage.proofs.Stages.{Asked, Tested, asks, given, tests, passed, stopped, handed}
-use Rattle.access.specs.Walks.{passesFor, keyTest}
+use Rattle.access.specs.Walks.{passesFor}
 use borrow.Author.Needs.{needs}
 use Rattle.access.proofs.logical.key_test.Statement.{statement}
 use Rattle.access.proofs.logical.key_test.Tie as tie

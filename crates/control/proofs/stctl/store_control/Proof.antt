@@ -46,7 +46,7 @@ unfolding storeControl block
 operand c =
     let call = c .before .before .before in
     let found = call .before .before .before .before in
-    let here = given (block (found .before .before .before .before)) (found .block .given .1) in
+    let here = given (block (found .before .before .before .before)) (found .field .given .1) in
     asks-after (here .start) _ _ (here .runs) (call .word-operand .result) (c .after .result)
     (here .start .args .storage .now) (call .word-operand .last .1 .0) (c .after .ensures)
     (call .word-operand .ensures)

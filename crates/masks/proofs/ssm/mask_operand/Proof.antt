@@ -45,7 +45,7 @@ word c =
     let call = c .before .before .before in
     let ecblok = call .before .before in
     let found = ecblok .before .before in
-    let here = given (creg (found .before .before .before .before)) (found .creg .given .1) in
+    let here = given (creg (found .before .before .before .before)) (found .field .given .1) in
     asks-after (here .start) _ _ (here .runs) (call .control-word .result) (c .after .result)
     (here .start .args .storage .now) (call .control-word .last .1 .0) (c .after .ensures)
     (simp (ecblok .address-in .ensures) at (call .control-word .ensures))

@@ -57,16 +57,16 @@ unfolding maskTarget field vpsw halfword
 first c = given (halfword (c .before .before .before)) (c .before .halfword .given .1)
 
 -- step 9 in the EC mode
-abbrev extended : tie.After-needs-expanded → Tested entry stage
+abbrev extended : tie.After-mask-needs-expanded → Tested entry stage
 unfolding maskTarget field vpsw halfword first
 extended c =
     let pending = c .before .before in
     let mode = pending .before in
     let here = first (mode .before) in
-    tests (here .start) _ _ _ (here .runs) (mode .is-extended .result && c .needs-expanded .result)
+    tests (here .start) _ _ _ (here .runs) (mode .is-extended .result && c .mask-needs-expanded .result)
     (simp (
       mode .is-extended .ensures,
-      c .needs-expanded .ensures,
+      c .mask-needs-expanded .ensures,
       pending .is-pending .ensures,
       c .before .mask-in .ensures .0,
     ))

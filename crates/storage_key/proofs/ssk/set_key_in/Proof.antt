@@ -48,11 +48,11 @@ returns-2 c =
     ended-with (asked .start .args .call .guest) (c .ending2 .result) asked (c .ending2 .ensures)
     (c .before .enum-told2 .given .1)
 
--- steps 9 and 10: the page entry
 abbrev word : tie.After-page-of → Reached entry stage
 unfolding setKeyIn place field
 word c = let found = c .before .before .before .before in given (field (found .before .before)) (found .field .given .1)
 
+-- steps 9 and 10: the page entry
 abbrev entered : tie.After-after2 → Asked entry stage
 unfolding setKeyIn place field word
 entered c =

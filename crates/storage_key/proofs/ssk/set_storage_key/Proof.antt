@@ -2,7 +2,7 @@ use mathlib.Core.Path.{ap, _∙_}
 use Rattle.rules.specs.Machine.{Machine}
 use Rattle.rules.specs.Steps.{Steps}
 use Rattle.rules.specs.Call.{Completion}
-use Rattle.rules.specs.SetStorageKey.{segmentRefusal, setStorageKey}
+use Rattle.rules.specs.SetStorageKey.{segmentEnding, setStorageKey}
 use Rattle.storage.specs.Answers.{machine, told}
 use Rattle.storage.proofs.Laws.{begin, fresh, finishes}
 use Rattle.storage.proofs.Stages.{Reached, Asked, asks, asks-after, given, reached-keys, ended-with}
@@ -51,7 +51,7 @@ segment c =
     asks-after (here .start) _ _ (here .runs) (c .before .refused .result) (c .after .result) s ks (c .after .ensures)
     (ap (λ r. told r s ks) (c .before .refused .ensures)
     ∙ simp (size .format-in .ensures, address size .address-word .ensures) at
-    (walk .segment-entry .ensures segmentRefusal))
+    (walk .segment-entry .ensures segmentEnding))
 
 returns-2 : tie.Need-returns-2
 unfolding setStorageKey table segment

@@ -6,7 +6,7 @@ returns : tie.Need-returns
 returns c = simp (c .before .walked .given .1)
 
 returns-2 : tie.Need-returns-2
-returns-2 c = simp (c .before .before .walked2 .given .1, c .segment-refusal .ensures)
+returns-2 c = simp (c .before .before .walked2 .given .1, c .segment-ending .ensures)
 
 pub refused-spec : {M : Type 1} → statement M
 refused-spec =

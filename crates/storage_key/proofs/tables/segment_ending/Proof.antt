@@ -1,6 +1,6 @@
 use borrow.Author.Needs.{needs}
-use Rattle.storage_key.proofs.tables.segment_refusal.Statement.{statement}
-use Rattle.storage_key.proofs.tables.segment_refusal.Tie as tie
+use Rattle.storage_key.proofs.tables.segment_ending.Statement.{statement}
+use Rattle.storage_key.proofs.tables.segment_ending.Tie as tie
 
 returns : tie.Need-returns
 returns c = simp (c .enum-told .given .1)
@@ -14,8 +14,8 @@ returns-4 c = simp (c .enum-told4 .given .1)
 returns-5 : tie.Need-returns-5
 returns-5 c = simp (c .enum-told5 .given .1)
 
-pub segment-refusal-spec : {M : Type 1} → statement M
-segment-refusal-spec =
+pub segment-ending-spec : {M : Type 1} → statement M
+segment-ending-spec =
     tie.close
     (tie.spec
     (λ c. search needs)

@@ -1,7 +1,7 @@
 use Rattle.masks.proofs.Bools.{or-false}
 use borrow.Author.Needs.{needs}
-use Rattle.masks.proofs.ssm.needs_expanded.Statement.{statement}
-use Rattle.masks.proofs.ssm.needs_expanded.Tie as tie
+use Rattle.masks.proofs.ssm.mask_needs_expanded.Statement.{statement}
+use Rattle.masks.proofs.ssm.mask_needs_expanded.Tie as tie
 
 returns : tie.Need-returns
 returns c =
@@ -15,7 +15,7 @@ returns c =
       c .goes-up2 .ensures,
     )
 
-pub needs-expanded-spec : {M : Type 1} → statement M
-needs-expanded-spec =
+pub mask-needs-expanded-spec : {M : Type 1} → statement M
+mask-needs-expanded-spec =
     tie.close
     (tie.spec (λ c κs. search needs) (λ c κs. search needs) (λ c κs. search needs) (λ c κs. search needs) returns)

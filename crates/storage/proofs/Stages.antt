@@ -4,7 +4,7 @@
 -- How to read such a proof. For each function the checker makes a record for each place of its code (`rt dev NAME
 -- --generated DIR` writes them): `tie.Start` has the arguments, `tie.After-f` what the call of `f` gave, `tie.Then1`
 -- and `tie.Else1` are a branch, and `.before` leads from a place to the one before it. It asks for a `Need` at some of
--- them; most are found by `search needs`; `Need-returns`, `Need-returns-2` and so on ask for the promise at the returns.
+-- them; most are found by `search needs`; `Need-returns`, `Need-returns-2` and so on ask for the promise at a return.
 -- A proof goes along the code: what it has asked at a call (`Asked`), which hands on an ending at the return below the
 -- call (`handed`, `ended-with`) or gives a value (`given`), and what it has tested (`Tested`), which stops or passes.
 use Prim.Native.Nat.{ℕ}

@@ -6,7 +6,6 @@ use Rattle.masks.proofs.ssm.mask_needs_expanded.Tie as tie
 returns : tie.Need-returns
 returns c =
     let at-changes2 = c .before .before in
-    let at-changes2 = at-changes2 in
     simp (
       or-false,
       at-changes2 .before .changes .ensures,

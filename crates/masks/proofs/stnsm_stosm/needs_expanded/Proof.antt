@@ -6,7 +6,6 @@ use Rattle.masks.proofs.stnsm_stosm.needs_expanded.Tie as tie
 returns : tie.Need-returns
 returns c =
     let at-enum-told = c .before .before in
-    let at-enum-told = at-enum-told in
     simp (or-false, at-enum-told .enum-told .given .1, c .before .goes-up .ensures, c .goes-up2 .ensures)
 
 returns-2 : tie.Need-returns-2

@@ -1,5 +1,4 @@
 // The lines that give a record, make a call, and end the input.
-use crate::checksum;
 use crate::report;
 use crate::state::State;
 use crate::state::Step;

@@ -2,7 +2,6 @@
 ghost use Prim.Native.Nat.{_≤_};
 use crate::bytes;
 use crate::calls;
-use crate::checksum;
 use crate::digits::Number;
 use crate::digits::field;
 use crate::report;
@@ -68,6 +67,15 @@ fn covered(kind: u8) -> usize {
     }
 }
 
+fn at_most(n: usize, most: usize) -> usize
+    ensures { λ r. ⌜ r ≤ most ⌝ }
+{
+    if n < most {
+        return n;
+    }
+    most
+}
+
 // The numbers of a line; false where it isn't of the form that its kind has.
 fn fields(line: &[u8], kind: u8, numbers: &mut [u32; 21]) -> bool {
     let count = fields_of(kind);
@@ -122,7 +130,8 @@ fn read_rest(line: &mut [u8], numbers: &mut [u32; 21], state: State) -> Step {
         report::print(line);
     }
     let mut next = state;
-    next.sum = checksum::over_first(state.sum, line, covered(kind));
+    let end = at_most(covered(kind), line.len());
+    next.sum = checksum::over(state.sum, &line[0..end]);
     Step::Next(next)
 }
 

@@ -6,7 +6,6 @@ use crate::state::Trouble;
 
 mod bytes;
 mod calls;
-mod checksum;
 mod digits;
 mod lines;
 mod report;

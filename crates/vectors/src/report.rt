@@ -1,5 +1,4 @@
 // What is printed.
-use crate::checksum;
 use crate::state::Trouble;
 use libc::STDOUT_FILENO;
 use rules::Answer;

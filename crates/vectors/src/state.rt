@@ -1,5 +1,4 @@
 // What is known between two lines of the input, and what a line can lead to.
-use crate::checksum;
 
 pub(crate) struct State {
     // lines read, and the first character of the last

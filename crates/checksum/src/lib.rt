@@ -1,8 +1,10 @@
-// CRC-32 (ISO-HDLC, as in zlib), byte by byte.
-ghost use Prim.Native.Nat.{_≤_};
+// CRC-32 (ISO-HDLC, as in zlib), byte by byte: a register that starts at START, goes over bytes, and is finished.
+ghost use Prim.Native.Nat.{_-_};
+ghost use mathlib.Core.Path.{_≡_};
+ghost use Rattle.checksum.specs.Register.{steps, afterByte, overBytes, bytesOf};
 
 // The register before the first byte.
-pub(crate) const START: u32 = 0xffffffff;
+pub const START: u32 = 0xffffffff;
 
 // The register after eight steps, with the polynomial 0xedb88320: from each value of a byte's right four bits with the
 // left four zero, then from each of the left with the right zero. From a whole byte it is the exclusive or of the two.
@@ -42,26 +44,24 @@ const STEPS: [u32; 32] = [
 ];
 
 // The register after these bytes.
-pub(crate) fn over(register: u32, bytes: &[u8]) -> u32 {
-    over_first(register, bytes, bytes.len())
-}
-
-// The register after the first n of these bytes.
-pub(crate) fn over_first(register: u32, bytes: &[u8], n: usize) -> u32 {
-    let end = at_most(n, bytes.len());
+pub fn over(register: u32, bytes: &[u8]) -> u32
+    ensures { λ r. ⌜ r ≡ overBytes register (now (bytes .entry)) ⌝ }
+{
     // the constant is copied where it is named: once here, and not for each byte
-    let steps = STEPS;
+    let table = STEPS;
     let mut now = register;
     let mut i = 0;
-    while i < end {
-        now = after(&steps, now, bytes[i]);
+    while i < bytes.len() {
+        now = after(&table, now, bytes[i]);
         i += 1;
     }
     now
 }
 
 // The register after a word, big-endian.
-pub(crate) fn over_word(register: u32, word: u32) -> u32 {
+pub fn over_word(register: u32, word: u32) -> u32
+    ensures { λ r. ⌜ r ≡ overBytes register (bytesOf word) ⌝ }
+{
     let bytes = [
         (word / 16777216) as u8,
         (word / 65536 % 256) as u8,
@@ -72,22 +72,18 @@ pub(crate) fn over_word(register: u32, word: u32) -> u32 {
 }
 
 // The checksum itself.
-pub(crate) fn finish(register: u32) -> u32 {
+pub fn finish(register: u32) -> u32
+    ensures { λ r. ⌜ r ≡ 4294967295 - register ⌝ }
+{
     4294967295 - register
 }
 
-fn after(steps: &[u32; 32], register: u32, byte: u8) -> u32 {
+fn after(table: &[u32; 32], register: u32, byte: u8) -> u32
+    requires { ⌜ now table ≡ steps ⌝ }
+    ensures { λ r. ⌜ r ≡ afterByte register byte ⌝ }
+{
     let next = (register % 256) as u8 ^ byte;
     let right = (next % 16) as usize;
     let left = (next / 16 % 16) as usize;
-    steps[right] ^ steps[16 + left] ^ register / 256
-}
-
-fn at_most(n: usize, most: usize) -> usize
-    ensures { λ r. ⌜ r ≤ most ⌝ }
-{
-    if n < most {
-        return n;
-    }
-    most
+    table[right] ^ table[16 + left] ^ register / 256
 }

@@ -1,0 +1,2 @@
+-- The checksum, as definitions.
+pub mod Register

@@ -4,10 +4,11 @@
 # make bench: the library's time for a call beside that of plain Rust.
 # make fuzz SEED=n CALLS=n: random calls through the library, compared with the second program.
 # make edges: the edges once more, but those in 16 MiB, by a program that is proved itself.
+# make trail: eight calls and their trail, with room for five records, by a program that is proved itself.
 # make vectors SEED=n CALLS=n: random calls through a proved program, compared; what they reached.
 # make expected: writes the stored expected outputs anew, with the second program.
 
-.PHONY: run test library bench fuzz edges vectors expected
+.PHONY: run test library bench fuzz edges trail vectors expected
 
 SEED ?= 1
 CALLS ?= 10000
@@ -34,6 +35,10 @@ fuzz: library
 edges:
 	rt check edges
 	tools/proved edges
+
+trail:
+	rt check eight_calls
+	tools/proved eight_calls
 
 vectors:
 	rt check vectors

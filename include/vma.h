@@ -1,8 +1,9 @@
 /*
  * The virtual-machine assist of System/370 (IBM manual GA22-7074): one attempt at SET SYSTEM MASK (80), STORE CONTROL
- * (B6), STORE THEN AND SYSTEM MASK (AC), STORE THEN OR SYSTEM MASK (AD) or SET STORAGE KEY (08) for a guest.
+ * (B6), STORE THEN AND SYSTEM MASK (AC), STORE THEN OR SYSTEM MASK (AD) or SET STORAGE KEY (08) for a guest; and a
+ * trail, in which attempts are written down.
  *
- * Link with libvma.a. docs/MANUAL.md has the rules, and what is proved of this function.
+ * Link with libvma.a. docs/MANUAL.md has the rules, and what is proved of these functions.
  * Bit 0 is leftmost, numbers in storage are big-endian, and addresses are of 24 bits.
  */
 #ifndef VMA_H
@@ -149,6 +150,94 @@ static inline const char *vma_code_name(unsigned code)
     case VMA_PAGE_TRANSLATION: return "page translation";
     case VMA_TRANSLATION_SPECIFICATION: return "translation specification";
     default: return "no interruption code of the assist";
+    }
+}
+
+/* ---- A trail ---------------------------------------------------------------------------------------------------- */
+
+/*
+ * A record of each call, 128 bytes, in a buffer that the caller lends; and right after the last record a trailer of 16
+ * bytes, which says how many records are held and how many were turned away because there was no room. Big-endian.
+ * docs/MANUAL.md, "The trail", lists the fields.
+ */
+#define VMA_TRAIL_RECORD_BYTES 128u
+#define VMA_TRAIL_TRAILER_BYTES 16u
+
+/*
+ * Starts a trail: an empty trailer is written at the buffer's front, and no other byte is changed. A buffer of fewer
+ * than 16 bytes is refused (VMA_TRAIL_SHORT_BUFFER), and is as it was. The number of records held is 0 in both cases.
+ */
+uint64_t vma_trail_start(uint8_t *buffer, size_t bytes);
+
+/*
+ * Writes a call of vma_attempt down.
+ *
+ * buffer, bytes            the buffer, and its size
+ * held                     the number of records held: vma_trail_held of what the last call on this trail gave back
+ * guest_number             the number by which the caller knows the guest
+ * before, after            the guest's record before the call, and as the call left it
+ * first_halfword, expanded_installed   as they were given to vma_attempt
+ * answer                   what vma_attempt gave back
+ *
+ * If one record more and the trailer fit in the buffer, and the records then have 4,294,967,295 bytes at most, the
+ * record goes in where the trailer stood, with the trailer after it, and the number held is one more. Otherwise only
+ * the trailer's number of records turned away rises (it stays at 4,294,967,295 once there), and the number held is that
+ * given. Refused are, in this order, a buffer of fewer than 16 bytes (VMA_TRAIL_SHORT_BUFFER), and a trailer that isn't
+ * where the number given points to, or has another number, distance or version (VMA_TRAIL_NO_TRAILER): then nothing is
+ * changed, and the number held is that given. No other byte is ever changed. A caller who each time gives the number
+ * that came back, and leaves the buffer alone, has no record written over before a new start.
+ *
+ * The caller sees to it that buffer points to as many bytes as is said, that before and after point to 21 words each
+ * and don't overlap the buffer (they may be the same words), and that nothing else writes to any of them during the
+ * call.
+ *
+ * Both functions give back the refusal's number in bits 0-7 and the number of records held in bits 32-63; those below
+ * take that apart.
+ */
+uint64_t vma_trail_write(uint8_t *buffer, size_t bytes, uint32_t held, uint32_t guest_number,
+                         const uint32_t before[21], const uint32_t after[21], uint16_t first_halfword,
+                         bool expanded_installed, uint64_t answer);
+
+/* Why a call on a trail is refused. The test for 21 comes first. */
+enum {
+    VMA_TRAIL_NOT_REFUSED = 0,  /* the record went in, or was turned away */
+    VMA_TRAIL_NO_TRAILER = 20,  /* the trailer that the number given points at isn't there, or is another */
+    VMA_TRAIL_SHORT_BUFFER = 21 /* a buffer of fewer than 16 bytes */
+};
+
+/* The refusal, or VMA_TRAIL_NOT_REFUSED. */
+static inline unsigned vma_trail_refusal(uint64_t result)
+{
+    return (unsigned)(result >> 56);
+}
+
+/* The number of records held, to be given with the next call on the trail. */
+static inline uint32_t vma_trail_held(uint64_t result)
+{
+    return (uint32_t)result;
+}
+
+/* How many bytes of the buffer a trail with so many records has, its trailer included: what is to be saved of it. */
+static inline uint64_t vma_trail_bytes(uint32_t held)
+{
+    return (uint64_t)held * VMA_TRAIL_RECORD_BYTES + VMA_TRAIL_TRAILER_BYTES;
+}
+
+/* How many records were turned away, by the trailer of a trail with so many records, which is in the buffer. */
+static inline uint32_t vma_trail_turned_away(const uint8_t *buffer, uint32_t held)
+{
+    const uint8_t *at = buffer + vma_trail_bytes(held) - 8;
+    return (uint32_t)at[0] << 24 | (uint32_t)at[1] << 16 | (uint32_t)at[2] << 8 | at[3];
+}
+
+/* A refusal in words. */
+static inline const char *vma_trail_refusal_name(unsigned refusal)
+{
+    switch (refusal) {
+    case VMA_TRAIL_NOT_REFUSED: return "not refused";
+    case VMA_TRAIL_NO_TRAILER: return "there is no such trailer where the number of records points to";
+    case VMA_TRAIL_SHORT_BUFFER: return "the buffer has fewer than 16 bytes";
+    default: return "no refusal of a trail";
     }
 }
 

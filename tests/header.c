@@ -64,11 +64,35 @@ static void names(void)
     expect(strcmp(vma_code_name(17), "page translation") == 0, "17 is page translation");
 }
 
+static void trail(void)
+{
+    static const unsigned refusals[] = {0, 20, 21};
+    uint8_t buffer[3 * 128 + 16] = {0};
+    unsigned named = 0;
+    expect(vma_trail_refusal(0x1400000002000001u) == 20, "the refusal is in bits 0-7");
+    expect(vma_trail_held(0x1400000002000001u) == 0x02000001, "the number of records held is in bits 32-63");
+    expect(vma_trail_refusal(0x00FFFFFFFFFFFFFFu) == 0, "nothing else is in the refusal");
+    expect(vma_trail_held(0xFFFFFFFF00000000u) == 0, "nothing else is in the number of records held");
+    expect(vma_trail_bytes(0) == 16 && vma_trail_bytes(3) == 400, "records of 128 bytes, and a trailer of 16");
+    expect(vma_trail_bytes(0xFFFFFFFF) == 549755813776u, "no number of records is too large");
+    buffer[3 * 128 + 8] = 0x89, buffer[3 * 128 + 9] = 0xAB, buffer[3 * 128 + 10] = 0xCD, buffer[3 * 128 + 11] = 0xEF;
+    expect(vma_trail_turned_away(buffer, 3) == 0x89ABCDEF, "those turned away are the trailer's third number");
+    expect(vma_trail_turned_away(buffer, 0) == 0, "at the front none was turned away");
+    for (unsigned n = 0; n < 256; n++)
+        named += strcmp(vma_trail_refusal_name(n), vma_trail_refusal_name(255)) != 0;
+    expect(named == 3, "three refusals are named, 'not refused' among them");
+    for (unsigned i = 0; i < 3; i++)
+        for (unsigned j = 0; j < i; j++)
+            expect(strcmp(vma_trail_refusal_name(refusals[i]), vma_trail_refusal_name(refusals[j])) != 0,
+                   "no two refusals alike");
+}
+
 int main(void)
 {
     fields();
     record();
     names();
+    trail();
     if (failures == 0)
         printf("header: its functions and numbers are as they should be\n");
     return failures != 0;

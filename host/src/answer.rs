@@ -7,8 +7,8 @@ use second::Ending;
 pub struct Answer {
     /// Number of the ending; 0 is completion.
     pub ending: u8,
-    /// Interruption code (ending 1) or step (ending 3), else zero.
-    pub code_or_step: u8,
+    /// Interruption code (ending 1) or step (ending 3), else zero. The library's has 8 bits, a trail's 16.
+    pub code_or_step: u16,
     /// Count of references.
     pub count: u16,
     /// Logical address that codes 16 and 17 carry, else zero.
@@ -20,10 +20,18 @@ impl Answer {
     pub fn unpack(result: u64) -> Answer {
         Answer {
             ending: (result >> 56) as u8,
-            code_or_step: (result >> 48) as u8,
+            code_or_step: u16::from((result >> 48) as u8),
             count: (result >> 32) as u16,
             logical_address: result as u32,
         }
+    }
+
+    /// What `unpack` took apart.
+    pub fn pack(self) -> u64 {
+        u64::from(self.ending) << 56
+            | u64::from(self.code_or_step) << 48
+            | u64::from(self.count) << 32
+            | u64::from(self.logical_address)
     }
 
     /// From the second program. A number too large for its field isn't cut, or it might look right: it
@@ -31,7 +39,7 @@ impl Answer {
     pub fn of_second(ending: Ending, count: usize) -> Answer {
         Answer {
             ending: u8::try_from(ending.number()).unwrap_or(u8::MAX),
-            code_or_step: u8::try_from(ending.code_or_step()).unwrap_or(u8::MAX),
+            code_or_step: u16::try_from(ending.code_or_step()).unwrap_or(u16::MAX),
             count: u16::try_from(count).unwrap_or(u16::MAX),
             logical_address: ending.logical_address(),
         }
@@ -39,6 +47,16 @@ impl Answer {
 
     pub fn completed(self) -> bool {
         self.ending == 0
+    }
+
+    /// Whether it has a code or a step.
+    pub fn has_code_or_step(self) -> bool {
+        matches!(self.ending, 1 | 3)
+    }
+
+    /// Whether it has a logical address.
+    pub fn has_logical_address(self) -> bool {
+        self.ending == 1 && matches!(self.code_or_step, 16 | 17)
     }
 }
 
@@ -60,6 +78,9 @@ mod tests {
         assert_eq!(fields(0x00FF_0000_0000_0000), (0, 0xFF, 0, 0));
         assert_eq!(fields(0x0000_FFFF_0000_0000), (0, 0, 0xFFFF, 0));
         assert_eq!(fields(0x0000_0000_FFFF_FFFF), (0, 0, 0, 0xFFFF_FFFF));
+        for result in [0, 0x0111_0203_0405_0607, 0xFEDC_BA98_7654_3210, u64::MAX] {
+            assert_eq!(Answer::unpack(result).pack(), result);
+        }
     }
 
     #[test]

@@ -7,12 +7,12 @@ use std::time::Instant;
 use second::bench_calls::bench_call;
 use second::{Call, Instruction, Request};
 
-use crate::command::{self, put_once, unknown, Command, Failure, Report};
+use crate::command::{self, put_once, unknown, Action, Command, Failure, Report};
 use crate::library;
 use crate::record;
 use crate::sides;
 
-pub const COMMAND: Command = Command { name: "bench", help: HELP, run };
+pub const COMMAND: Command = Command { name: "bench", help: HELP, action: Action::Run(run) };
 
 const HELP: &str = "usage: vma bench [--quick]
 

@@ -1,7 +1,7 @@
 //! What the commands have in common: what they give, how they fail, and the words of the command line.
 
 use std::ffi::{OsStr, OsString};
-use std::io::Write;
+use std::io::{self, Write};
 
 /// Exit statuses, as the man page lists them.
 pub const COMPLETED: u8 = 0;
@@ -9,6 +9,7 @@ pub const ERROR: u8 = 1;
 pub const USAGE: u8 = 2;
 pub const FINISHED_EARLIER: u8 = 3;
 pub const OTHER_ENDING: u8 = 4;
+pub const TURNED_AWAY: u8 = 5;
 
 /// What a command gives: text for standard output, and the exit status.
 pub struct Report {
@@ -52,7 +53,14 @@ impl Failure {
 pub struct Command {
     pub name: &'static str,
     pub help: &'static str,
-    pub run: fn(&[OsString]) -> Result<Report, Failure>,
+    pub action: Action,
+}
+
+pub enum Action {
+    /// What is to be printed, but for what it has printed itself because that may be long.
+    Run(fn(&[OsString]) -> Result<Report, Failure>),
+    /// The next word names one of these.
+    Choose(&'static [Command]),
 }
 
 /// The words after the command, taken one by one.
@@ -96,7 +104,12 @@ pub fn number(what: &str, word: &OsStr) -> Result<u64, Failure> {
     })
 }
 
+/// Standard output can't be written.
+pub fn unprintable(error: io::Error) -> Failure {
+    Failure::Error(format!("the result can't be printed: {error}"))
+}
+
 /// A message on standard error. If even that can't be written, the exit status has to do.
 pub fn say(message: &str) {
-    let _ = writeln!(std::io::stderr(), "vma: {message}");
+    let _ = writeln!(io::stderr(), "vma: {message}");
 }

@@ -6,12 +6,12 @@ use second::edges::{self, Edge};
 use second::Instruction;
 
 use crate::changes;
-use crate::command::{self, unknown, Command, Failure, Report};
+use crate::command::{self, unknown, Action, Command, Failure, Report};
 use crate::record;
 use crate::sides::{self, Made};
 use crate::words;
 
-pub const COMMAND: Command = Command { name: "demo", help: HELP, run };
+pub const COMMAND: Command = Command { name: "demo", help: HELP, action: Action::Run(run) };
 
 const HELP: &str = "usage: vma demo
 

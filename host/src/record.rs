@@ -27,6 +27,20 @@ pub fn instruction_address(record: &Record) -> u32 {
     record[1] & 0x00FF_FFFF
 }
 
+/// The words of a line, where the record is written: PSW, general registers in fours, control registers.
+const LINES: [usize; 6] = [2, 4, 4, 4, 4, 3];
+
+/// The record in six lines of words.
+pub fn lines(record: &Record) -> [String; 6] {
+    let mut rest = record.as_slice();
+    LINES.map(|length| {
+        let (line, after) = rest.split_at(length);
+        rest = after;
+        let words: Vec<String> = line.iter().map(|word| format!("{word:08X}")).collect();
+        words.join(" ")
+    })
+}
+
 /// What a word of the record is.
 pub fn name(place: usize) -> String {
     match place {
@@ -64,6 +78,15 @@ mod tests {
             names[17..],
             ["general register 15", "control register 0", "control register 1", "control register 6"]
         );
+    }
+
+    #[test]
+    fn six_lines() {
+        let record: Record = std::array::from_fn(|place| 0xABCD_EF00 + place as u32);
+        let lines = lines(&record);
+        assert_eq!(lines[0], "ABCDEF00 ABCDEF01");
+        assert_eq!(lines[1], "ABCDEF02 ABCDEF03 ABCDEF04 ABCDEF05");
+        assert_eq!(lines[5], "ABCDEF12 ABCDEF13 ABCDEF14");
     }
 
     #[test]

@@ -1,12 +1,13 @@
 //! One call, by the library and by the second program.
 
-use second::{Request, StorageImage};
+use second::{CountedAnswer, Request, StorageImage};
 
 use crate::answer::Answer;
 use crate::changes::{self, State};
-use crate::library;
+use crate::library::{self, MadeCall};
 use crate::record::{self, Record};
 use crate::words;
+use crate::written::Written;
 
 /// What comes back from a call: the numbers, and the record handed back.
 #[derive(Clone, Copy, Debug, PartialEq, Eq)]
@@ -24,11 +25,21 @@ pub fn library(request: &Request, storage: &mut [u8], keys: &mut [u8]) -> Outcom
 
 /// The call made by the second program, without its list of references.
 pub fn counted(request: &Request, storage: &mut [u8], keys: &mut [u8]) -> Outcome {
+    Outcome::of_counted(&counted_answer(request, storage, keys))
+}
+
+/// The same, as the second program gives it.
+pub fn counted_answer(request: &Request, storage: &mut [u8], keys: &mut [u8]) -> CountedAnswer {
     let Request { guest, first_halfword, expanded } = request;
-    let answer = second::attempt_counted(storage, keys, guest, *first_halfword, *expanded);
-    Outcome {
-        answer: Answer::of_second(answer.ending, answer.count as usize),
-        record: record::of_guest(&answer.guest),
+    second::attempt_counted(storage, keys, guest, *first_halfword, *expanded)
+}
+
+impl Outcome {
+    pub fn of_counted(answer: &CountedAnswer) -> Outcome {
+        Outcome {
+            answer: Answer::of_second(answer.ending, answer.count as usize),
+            record: record::of_guest(&answer.guest),
+        }
     }
 }
 
@@ -43,6 +54,17 @@ pub fn listed(request: &Request, storage: &mut [u8], keys: &mut [u8]) -> Outcome
 
 /// A way to make a call: `library`, `counted` or `listed`.
 pub type Side = fn(&Request, &mut [u8], &mut [u8]) -> Outcome;
+
+/// What the library can do; in tests, what is to be told from the second program.
+#[derive(Clone, Copy)]
+pub struct Functions {
+    pub attempt: Side,
+    pub trail_start: fn(&mut [u8]) -> Written,
+    pub trail_write: fn(&mut [u8], u32, &MadeCall) -> Written,
+}
+
+pub const LIBRARY: Functions =
+    Functions { attempt: library, trail_start: library::trail_start, trail_write: library::trail_write };
 
 /// What a call gives and leaves on storage of its own.
 pub struct Made {
@@ -90,5 +112,5 @@ pub fn numbers(answer: Answer) -> String {
 
 /// The count in words: `1 reference`.
 pub fn references(count: u16) -> String {
-    format!("{count} reference{}", if count == 1 { "" } else { "s" })
+    words::counted(count.into(), "reference")
 }

@@ -1,19 +1,19 @@
-//! The endings in words, number first.
+//! The endings in words, number first; and numbers.
 
 use crate::answer::Answer;
 
 /// An ending with all that it carries: `1 program interruption, code 16 segment translation, at 012345`.
 pub fn ending(answer: Answer) -> String {
     let kind = kind(answer.ending, answer.code_or_step);
-    match (answer.ending, answer.code_or_step) {
-        (1, 16 | 17) => format!("{kind}, at {:06X}", answer.logical_address),
-        (3, step) => format!("{kind}, step {step}"),
+    match answer.ending {
+        3 => format!("{kind}, step {}", answer.code_or_step),
+        _ if answer.has_logical_address() => format!("{kind}, at {:06X}", answer.logical_address),
         _ => kind,
     }
 }
 
 /// An ending without its step and logical address.
-pub fn kind(number: u8, code: u8) -> String {
+pub fn kind(number: u8, code: u16) -> String {
     let meaning = match number {
         0 => "completed",
         1 => return format!("1 program interruption, code {code} {}", interruption(code)),
@@ -29,7 +29,7 @@ pub fn kind(number: u8, code: u8) -> String {
     format!("{number} {meaning}")
 }
 
-fn interruption(code: u8) -> &'static str {
+fn interruption(code: u16) -> &'static str {
     match code {
         2 => "privileged operation",
         4 => "protection",
@@ -41,11 +41,29 @@ fn interruption(code: u8) -> &'static str {
     }
 }
 
+/// A number with its noun: `1 byte`, `2 bytes`.
+pub fn counted(number: u64, noun: &str) -> String {
+    format!("{number} {noun}{}", if number == 1 { "" } else { "s" })
+}
+
+/// A number for people: `4,294,967,295`.
+pub fn grouped(number: u64) -> String {
+    let digits = number.to_string();
+    let mut text = String::new();
+    for (place, digit) in digits.chars().enumerate() {
+        if place > 0 && (digits.len() - place) % 3 == 0 {
+            text.push(',');
+        }
+        text.push(digit);
+    }
+    text
+}
+
 #[cfg(test)]
 mod tests {
     use super::*;
 
-    fn words(ending: u8, code_or_step: u8, logical_address: u32) -> String {
+    fn words(ending: u8, code_or_step: u16, logical_address: u32) -> String {
         super::ending(Answer { ending, code_or_step, count: 85, logical_address })
     }
 
@@ -72,9 +90,18 @@ mod tests {
     }
 
     #[test]
+    fn numbers() {
+        assert_eq!([0, 1, 2].map(|number| counted(number, "byte")), ["0 bytes", "1 byte", "2 bytes"]);
+        let grouped = [0, 999, 1_000, 123_456, 4_294_967_295].map(grouped);
+        assert_eq!(grouped, ["0", "999", "1,000", "123,456", "4,294,967,295"]);
+    }
+
+    #[test]
     fn numbers_that_no_rule_gives_are_said_to_be_so() {
         assert_eq!(words(4, 0, 0), "4 (no ending has this number)");
         assert_eq!(words(255, 0, 0), "255 (no ending has this number)");
         assert_eq!(words(1, 3, 0), "1 program interruption, code 3 (no interruption has this code)");
+        assert_eq!(words(1, 256 + 16, 7), "1 program interruption, code 272 (no interruption has this code)");
+        assert_eq!(words(3, 65_535, 0), "3 control field or key block not in storage, step 65535");
     }
 }

@@ -91,6 +91,11 @@ impl Answer {
     pub fn count(&self) -> usize {
         self.references.len()
     }
+
+    /// The same without the list.
+    pub fn counted(&self) -> CountedAnswer {
+        CountedAnswer { ending: self.ending, count: self.count() as u32, guest: self.guest }
+    }
 }
 
 /// The same without the list.

@@ -1,4 +1,5 @@
-//! Independent second implementation, from document 01 alone, of five instructions of the assist.
+//! Independent second implementation, from documents 01 and 02 alone, of five instructions of the assist and of the
+//! trail of calls.
 
 #![forbid(unsafe_code)]
 
@@ -12,6 +13,7 @@ pub mod checksum;
 pub mod control_block;
 pub mod damaged;
 pub mod edges;
+pub mod eight_calls;
 pub mod ending;
 pub mod fixed;
 pub mod generate;
@@ -25,6 +27,7 @@ pub mod set_system_mask;
 pub mod setup;
 pub mod store_control;
 pub mod store_then_mask;
+pub mod trail;
 pub mod translation;
 pub mod vectors;
 

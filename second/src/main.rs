@@ -1,4 +1,4 @@
-//! Commands: `second edges`, `second report`, `second vectors`, `second damage`.
+//! Commands: `second edges`, `second report`, `second vectors`, `second damage`, `second trail`.
 
 use std::io::Write;
 use std::path::Path;
@@ -6,6 +6,7 @@ use std::process::ExitCode;
 
 use second::damaged;
 use second::edges::{self, Edge};
+use second::eight_calls;
 use second::report::Tally;
 use second::vectors::{SetOptions, VectorSet, FEWEST_CALLS, FEWEST_LARGE_CALLS};
 
@@ -13,12 +14,15 @@ const USAGE: &str = "usage: second edges [--large]
        second report [--seed N] [--calls N]
        second vectors [--seed N] [--calls N] [--large] --out DIR
        second damage --out DIR
+       second trail [--out FILE]
 
 edges    prints one line for each edge of document 01; --large: those in more than 4,194,304 bytes
 report   prints how often random calls reach each ending, code and step (seed 1, 20000 calls)
 vectors  writes calls to DIR/stdin and what must be printed for them to DIR/stdout, and prints the
          report over them (seed 1, 10000 calls; --large: in up to 16,779,264 bytes, 200 calls)
-damage   writes damaged files of calls to DIR, each NAME.stdin with NAME.stdout";
+damage   writes damaged files of calls to DIR, each NAME.stdin with NAME.stdout
+trail    prints what eight calls and the writing of each in a trail give, and the trail's buffer;
+         --out: writes that trail, cut after its trailer, to FILE and prints nothing";
 
 /// Options as given.
 #[derive(Default)]
@@ -52,6 +56,12 @@ fn main() -> ExitCode {
         }
         ("damage", Options { seed: None, calls: None, large: false, out: Some(out) }) => {
             write_damaged(Path::new(out))
+        }
+        ("trail", Options { seed: None, calls: None, large: false, out: None }) => {
+            print(&eight_calls::text())
+        }
+        ("trail", Options { seed: None, calls: None, large: false, out: Some(out) }) => {
+            write_trail(Path::new(out))
         }
         _ => usage(),
     }
@@ -111,12 +121,22 @@ fn write_damaged(directory: &Path) -> ExitCode {
     print(&format!("{} damaged files", cases.len()))
 }
 
+fn write_trail(path: &Path) -> ExitCode {
+    match write_file(path, &eight_calls::trail_file()) {
+        Ok(()) => ExitCode::SUCCESS,
+        Err(message) => fail(&message),
+    }
+}
+
 fn write_files(directory: &Path, files: &[(&str, &str)]) -> Result<(), String> {
     for (name, text) in files {
-        let path = directory.join(name);
-        std::fs::write(&path, text).map_err(|error| format!("{}: {error}", path.display()))?;
+        write_file(&directory.join(name), text.as_bytes())?;
     }
     Ok(())
+}
+
+fn write_file(path: &Path, bytes: &[u8]) -> Result<(), String> {
+    std::fs::write(path, bytes).map_err(|error| format!("{}: {error}", path.display()))
 }
 
 fn print(text: &str) -> ExitCode {

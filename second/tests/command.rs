@@ -26,6 +26,13 @@ fn wrong_arguments_give_usage_and_status_2() {
         &["vectors", "--out", ".", "--calls", "many"],
         &["damage"],
         &["damage", "--out", ".", "--seed", "1"],
+        &["trail", "more"],
+        &["trail", "--large"],
+        &["trail", "--calls", "8"],
+        &["trail", "--seed", "1"],
+        &["trail", "--out"],
+        &["trail", "--out", "/no/such", "--seed", "1"],
+        &["trail", "--out", "/no/such", "--large"],
     ] {
         let output = second(arguments);
         assert_eq!(output.status.code(), Some(2), "{arguments:?}");
@@ -125,4 +132,38 @@ fn report_is_the_same_for_the_same_seed() {
     assert_eq!(first.status.code(), Some(0));
     assert!(String::from_utf8_lossy(&first.stdout).starts_with("300 calls, "));
     assert_eq!(first.stdout, second(&arguments).stdout);
+}
+
+#[test]
+fn trail_prints_the_eight_calls_alone() {
+    let output = second(&["trail"]);
+    assert_eq!(output.status.code(), Some(0));
+    assert!(output.stderr.is_empty());
+    assert_eq!(String::from_utf8_lossy(&output.stdout), format!("{}\n", second::eight_calls::text()));
+}
+
+/// Twice over: what the file held before does not stay.
+#[test]
+fn trail_out_writes_the_file_and_prints_nothing() {
+    let path = format!("{}/trail", new_directory("trail"));
+    for before in [None, Some(vec![0xEE; 1_000])] {
+        if let Some(bytes) = before {
+            std::fs::write(&path, bytes).expect("a file for the test");
+        }
+        let output = second(&["trail", "--out", &path]);
+        assert_eq!(output.status.code(), Some(0));
+        assert!(output.stdout.is_empty() && output.stderr.is_empty());
+        assert_eq!(std::fs::read(&path).expect("a file was written"), second::eight_calls::trail_file());
+    }
+}
+
+#[test]
+fn trail_out_where_no_file_can_be_gives_status_1() {
+    let directory = new_directory("trail-refused");
+    for path in [directory.as_str(), "/no/such/trail"] {
+        let output = second(&["trail", "--out", path]);
+        assert_eq!(output.status.code(), Some(1), "{path}");
+        assert!(output.stdout.is_empty());
+        assert!(String::from_utf8_lossy(&output.stderr).starts_with(&format!("second: {path}: ")));
+    }
 }

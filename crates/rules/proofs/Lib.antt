@@ -3,6 +3,8 @@ pub mod Computing
 pub mod Bind
 pub mod Within
 pub mod Fits
+pub mod Small
+pub mod Bytes
 pub mod All
 pub mod Puts
 pub mod Local

@@ -1,4 +1,4 @@
--- The four bytes of a word, in a list of four and in a longer one.
+-- The four bytes of a word, in a longer list.
 use Prim.Native.Nat.{ℕ, zero, suc, _+_, _%_, _≤_}
 use native.Mathlib.Omega.{arith}
 use mathlib.Core.Path.{_≡_, refl, ap}
@@ -6,16 +6,6 @@ use mathlib.Core.List.{List, [], _∷_, _++_}
 use lib.ListN.{length, take, drop, set}
 use Rattle.rules.specs.Machine.{addresses, stored}
 use Rattle.storage.specs.Items.{wordBytes}
-
--- four stores fill a list of four
-pub four-set : (l : List ℕ) (a b c d : ℕ) → length l ≡ 4
-    → set (set (set (set l 0 a) 1 b) 2 c) 3 d ≡ a ∷ b ∷ c ∷ d ∷ []
-four-set [] a b c d h = absurd (omega arith)
-four-set (w ∷ []) a b c d h = absurd (omega arith)
-four-set (w ∷ x ∷ []) a b c d h = absurd (omega arith)
-four-set (w ∷ x ∷ y ∷ []) a b c d h = absurd (omega arith)
-four-set (w ∷ x ∷ y ∷ z ∷ []) a b c d h = refl
-four-set (w ∷ x ∷ y ∷ z ∷ u ∷ l) a b c d h = absurd (omega arith)
 
 -- four stores one after the other put their bytes between what stands before and after them
 between : (s : List ℕ) (a x y z w : ℕ) → a + 4 ≤ length s

@@ -1,13 +1,18 @@
-// The library that C programs link: one entry, on bytes, words and numbers. include/vma.h declares it.
+// The library that C programs link: three entries, on bytes, words and numbers. include/vma.h declares them.
 ghost use mathlib.Core.Path.{_≡_};
 ghost use lib.ListN.{length};
 ghost use Rattle.rules.specs.Endings.{numbers};
 ghost use Rattle.vma.specs.Words.{wordsOf};
 ghost use Rattle.vma.specs.Packed.{packed, numbersIn, countIn};
 ghost use Rattle.vma.specs.Called.{called};
+ghost use Rattle.trail.specs.Trails.{start, refusalNumber};
+ghost use Rattle.vma.specs.Recorded.{writtenDown, packedTrail, refusalIn, heldIn};
+use crate::entries::entry_from;
 use crate::guest_words::guest_of;
 use crate::packing::pack;
+use crate::packing::pack_trail;
 
+mod entries;
 mod guest_words;
 mod packing;
 
@@ -62,4 +67,55 @@ pub extern "C" fn vma_attempt(
         answer.count,
         ending.address(),
     )
+}
+
+// Starts a trail in a lent buffer. Every call is answered, whatever is lent.
+#[no_mangle]
+pub extern "C" fn vma_trail_start(buffer: &mut [u8]) -> u64
+    ensures result { λ r. ⌜ r ≡ packedTrail (start (now (buffer .entry))) ⌝ }
+    ensures refusal { λ r. ⌜ refusalIn r ≡ refusalNumber (start (now (buffer .entry)) .refusal) ⌝ }
+    ensures held { λ r. ⌜ heldIn r ≡ start (now (buffer .entry)) .held ⌝ }
+    ensures buffer { λ r. ⌜ now (buffer .exit) ≡ start (now (buffer .entry)) .buffer ⌝ }
+{
+    pack_trail(trail::start(buffer))
+}
+
+// Writes a call down in a trail: the guest's number, its record before and after the call, and the answer as
+// `vma_attempt` packed it.
+#[no_mangle]
+pub extern "C" fn vma_trail_write(
+    buffer: &mut [u8],
+    held: u32,
+    number: u32,
+    before: &[u32; 21],
+    after: &[u32; 21],
+    first: u16,
+    installed: bool,
+    answer: u64,
+) -> u64
+    ensures result { λ r. ⌜
+        r
+        ≡ packedTrail
+        (writtenDown (now (buffer .entry)) held number (now (before .entry)) (now (after .entry)) first installed
+        answer)
+        ⌝ }
+    ensures refusal { λ r. ⌜
+        refusalIn r
+        ≡ refusalNumber
+        (writtenDown (now (buffer .entry)) held number (now (before .entry)) (now (after .entry)) first installed
+        answer .refusal)
+        ⌝ }
+    ensures held { λ r. ⌜
+        heldIn r
+        ≡ writtenDown (now (buffer .entry)) held number (now (before .entry)) (now (after .entry)) first installed
+        answer .held
+        ⌝ }
+    ensures buffer { λ r. ⌜
+        now (buffer .exit)
+        ≡ writtenDown (now (buffer .entry)) held number (now (before .entry)) (now (after .entry)) first installed
+        answer .buffer
+        ⌝ }
+{
+    let entry = entry_from(number, *before, *after, first, installed, answer);
+    pack_trail(trail::write(buffer, held, entry))
 }

@@ -2,9 +2,6 @@
 
 use crate::record::{self, Record, WORDS};
 
-/// The words of a line, when the record is written: PSW, general registers in fours, control registers.
-const LINES: [usize; 6] = [2, 4, 4, 4, 4, 3];
-
 /// The record, or what is wrong with the text and on which line.
 pub fn parse(text: &[u8]) -> Result<Record, String> {
     let mut words = Vec::with_capacity(WORDS);
@@ -30,16 +27,7 @@ pub fn parse(text: &[u8]) -> Result<Record, String> {
 
 /// The text of a record, with a comment that names the order.
 pub fn text(record: &Record) -> String {
-    let mut text = format!("# {}\n", record::ORDER);
-    let mut rest = record.as_slice();
-    for length in LINES {
-        let (line, after) = rest.split_at(length);
-        let words: Vec<String> = line.iter().map(|word| format!("{word:08X}")).collect();
-        text.push_str(&words.join(" "));
-        text.push('\n');
-        rest = after;
-    }
-    text
+    format!("# {}\n{}\n", record::ORDER, record::lines(record).join("\n"))
 }
 
 fn value(word: &[u8]) -> Option<u32> {

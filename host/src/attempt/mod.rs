@@ -9,14 +9,14 @@ use std::ffi::OsString;
 
 use crate::answer::Answer;
 use crate::changes::{self, State};
-use crate::command::{self, Command, Failure, Report};
+use crate::command::{self, Action, Command, Failure, Report};
 use crate::library;
 use crate::record;
 use crate::words;
 use files::{Files, Start};
 use options::Options;
 
-pub const COMMAND: Command = Command { name: "attempt", help: HELP, run };
+pub const COMMAND: Command = Command { name: "attempt", help: HELP, action: Action::Run(run) };
 
 const HELP: &str = "usage: vma attempt --storage FILE --keys FILE --guest FILE --first HEX [--expanded]
 

@@ -1,6 +1,6 @@
 //! Bytes that are lent to one side, with a margin on either end to see what is written outside.
 
-pub const MARGIN: usize = 4_096;
+const MARGIN: usize = 4_096;
 
 /// What is lent may begin at any of so many places.
 pub const STARTS: usize = 4_096;
@@ -9,19 +9,26 @@ const ZEROS: [u8; MARGIN] = [0; MARGIN];
 
 pub struct Area {
     bytes: Vec<u8>,
+    /// Bytes of either margin.
+    margin: usize,
     /// Where what is lent begins.
     start: usize,
 }
 
 impl Area {
-    /// All zero, with room to lend `most` bytes.
+    /// All zero, with room to lend `most` bytes that begin at one of the `STARTS`.
     pub fn new(most: usize) -> Area {
-        Area { bytes: vec![0; MARGIN + STARTS + most + MARGIN], start: MARGIN }
+        Area::with_margin(MARGIN, STARTS + most)
     }
 
-    /// Let what is lent begin at one of the `STARTS`.
+    /// All zero, with this margin on either end of so many bytes.
+    pub fn with_margin(margin: usize, bytes: usize) -> Area {
+        Area { bytes: vec![0; margin + bytes + margin], margin, start: margin }
+    }
+
+    /// Let what is lent begin so many bytes after the margin.
     pub fn start_at(&mut self, start: usize) {
-        self.start = MARGIN + start;
+        self.start = self.margin + start;
     }
 
     pub fn start(&self) -> usize {
@@ -50,13 +57,14 @@ impl Area {
 
     /// Is what is lent the same, and what stands in the margins?
     pub fn is_same(&self, other: &Area, size: usize) -> bool {
-        let around = self.start - MARGIN..self.start + size + MARGIN;
+        let around = self.start - self.margin..self.start + size + self.margin;
         self.bytes[around.clone()] == other.bytes[around]
     }
 
     pub fn has_same_margins(&self, other: &Area, size: usize) -> bool {
-        let is_same = |start| self.bytes[start..start + MARGIN] == other.bytes[start..start + MARGIN];
-        is_same(self.start - MARGIN) && is_same(self.start + size)
+        let margin = self.margin;
+        let is_same = |start| self.bytes[start..start + margin] == other.bytes[start..start + margin];
+        is_same(self.start - margin) && is_same(self.start + size)
     }
 
     /// Everything, wherever what is lent begins.

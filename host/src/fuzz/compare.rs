@@ -14,6 +14,8 @@
 //! storage begins at another place of the area in each call, one of `STARTS` by chance: the second write
 //! undoes the first with a chance of one in `STARTS` at most, and a fault that comes again and again is seen.
 //! In small storage there is not even that chance.
+//!
+//! A call that agrees is then written down: see `trails`.
 
 use second::generate::{Chain, Random, MOST_KEYS};
 use second::{ReferenceKind, Request, StorageImage};
@@ -21,7 +23,8 @@ use second::{ReferenceKind, Request, StorageImage};
 use super::area::{Area, STARTS};
 use super::plan::{List, Plan};
 use super::tally::Tally;
-use crate::sides::{self, Outcome, Side};
+use super::trails::Trails;
+use crate::sides::{self, Functions, Outcome};
 
 /// Storage of at most this size is compared whole after each call.
 const SMALL: usize = 0x2_0000;
@@ -33,8 +36,7 @@ pub struct Ground {
 }
 
 pub struct Comparer {
-    /// The library, or in tests something that is to be told from the second program.
-    side: Side,
+    functions: Functions,
     pub library: Ground,
     pub counted: Ground,
     /// Where the second program makes its list of references, in large storage.
@@ -43,6 +45,7 @@ pub struct Comparer {
     touched: Vec<usize>,
     /// Compare everything after each call.
     whole: bool,
+    pub trails: Trails,
     pub tally: Tally,
     /// What the last call gave: by the library, and by the second program.
     pub last: Option<(Outcome, Outcome)>,
@@ -57,18 +60,24 @@ pub enum Alarm {
 }
 
 impl Comparer {
-    pub fn new(plan: &Plan, side: Side, whole: bool) -> Comparer {
+    pub fn new(plan: &Plan, functions: Functions, whole: bool) -> Comparer {
         let ground = || Ground { storage: Area::new(plan.most_bytes()), keys: Area::new(MOST_KEYS) };
         Comparer {
-            side,
+            functions,
             library: ground(),
             counted: ground(),
             listed: ground(),
             touched: Vec::new(),
             whole,
+            trails: Trails::new(plan.seed, functions, whole),
             tally: Tally::default(),
             last: None,
         }
+    }
+
+    /// Before a group.
+    pub fn begin(&mut self) {
+        self.trails.begin();
     }
 
     /// Make the calls of a list. If it gives an alarm, this comparer is of no further use.
@@ -80,7 +89,7 @@ impl Comparer {
                 self.shift(index)?;
                 self.foresee(image, request)?;
             }
-            if !self.call(image, request) {
+            if !self.call(image, request, index) {
                 return Err(Alarm::Differs(index));
             }
         }
@@ -155,16 +164,21 @@ impl Comparer {
         [&mut self.library, &mut self.counted, &mut self.listed].into_iter()
     }
 
-    /// Make a call on both sides. Is all that is compared the same?
-    fn call(&mut self, image: &StorageImage, request: &Request) -> bool {
+    /// Make the call with this number on both sides, and write it down. Is all that is compared the same?
+    fn call(&mut self, image: &StorageImage, request: &Request, index: u64) -> bool {
         let (size, count) = (image.storage_size, image.key_count);
         let Ground { storage, keys } = &mut self.library;
-        let library = (self.side)(request, storage.lent(size), keys.lent(count));
+        let library = (self.functions.attempt)(request, storage.lent(size), keys.lent(count));
         let Ground { storage, keys } = &mut self.counted;
-        let counted = sides::counted(request, storage.lent(size), keys.lent(count));
+        let answer = sides::counted_answer(request, storage.lent(size), keys.lent(count));
+        let counted = Outcome::of_counted(&answer);
         self.last = Some((library, counted));
         self.tally.add(library.answer);
-        library == counted && self.is_same(size, count)
+        if library != counted || !self.is_same(size, count) {
+            return false;
+        }
+        let written = self.trails.write_down(index, request, &library, &answer);
+        written.inspect(|&ending| self.tally.add_writing(ending)).is_some()
     }
 
     fn is_same(&self, size: usize, count: usize) -> bool {

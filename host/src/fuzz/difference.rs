@@ -35,6 +35,7 @@ pub fn of_call(plan: &Plan, list: &List, index: u64, comparer: &Comparer) -> Str
     let (library, second) = (&comparer.library, &comparer.counted);
     lines.extend(place_lines("storage", image.storage_size, &library.storage, &second.storage));
     lines.extend(place_lines("keys", image.key_count, &library.keys, &second.keys));
+    lines.extend(comparer.trails.difference());
     lines.join("\n") + "\n"
 }
 
@@ -61,13 +62,14 @@ fn before_lines(chain: &Chain, place: usize) -> Vec<String> {
     lines
 }
 
-fn non_zero(bytes: &[u8]) -> Vec<String> {
+/// The bytes that are not zero.
+pub fn non_zero(bytes: &[u8]) -> Vec<String> {
     let line = |run: Range<usize>| format!("  {:06X}: {}", run.start, changes::hex(&bytes[run.clone()]));
     changes::runs(bytes, &vec![0; bytes.len()], 16, 3).into_iter().map(line).collect()
 }
 
 /// The places at which two areas differ, also outside what was lent.
-fn place_lines(what: &str, size: usize, library: &Area, second: &Area) -> Vec<String> {
+pub fn place_lines(what: &str, size: usize, library: &Area, second: &Area) -> Vec<String> {
     let runs = changes::runs(library.all(), second.all(), 8, 0);
     let more = runs.len().saturating_sub(MOST_LINES);
     let bytes = |area: &Area, run: &Range<usize>| changes::hex(&area.all()[run.clone()]);

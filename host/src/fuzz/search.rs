@@ -9,14 +9,14 @@ use super::difference;
 use super::plan::Plan;
 use super::tally::Tally;
 use crate::command::Failure;
-use crate::sides::Side;
+use crate::sides::Functions;
 
 const THREADS: usize = 2;
 
 /// What is shared by the threads.
 struct Shared<'a> {
     plan: &'a Plan,
-    side: Side,
+    functions: Functions,
     /// The next group to take. Groups are taken in order, and each that is taken is finished.
     next: AtomicU64,
     /// The first group in which a difference was found so far.
@@ -31,10 +31,11 @@ struct Part {
     difference: Option<(u64, String)>,
 }
 
-/// Make all calls of the plan by one side (the library) and by the second program; gives the tally, and the
-/// report on the first call that differs.
-pub fn search(plan: &Plan, side: Side) -> Result<(Tally, Option<String>), Failure> {
-    let shared = Shared { plan, side, next: AtomicU64::new(0), first_differing: AtomicU64::new(u64::MAX) };
+/// Make all calls of the plan by the library and by the second program, and write them down; gives the tally,
+/// and the report on the first call that differs.
+pub fn search(plan: &Plan, functions: Functions) -> Result<(Tally, Option<String>), Failure> {
+    let (next, first_differing) = (AtomicU64::new(0), AtomicU64::new(u64::MAX));
+    let shared = Shared { plan, functions, next, first_differing };
     let parts = thread::scope(|scope| {
         let threads: Vec<_> = (0..THREADS).map(|_| scope.spawn(|| work(&shared))).collect();
         threads.into_iter().map(|thread| thread.join()).collect::<Result<Vec<Part>, _>>()
@@ -51,8 +52,8 @@ pub fn search(plan: &Plan, side: Side) -> Result<(Tally, Option<String>), Failur
 }
 
 fn work(shared: &Shared) -> Part {
-    let Shared { plan, side, next, first_differing } = shared;
-    let mut comparer = Comparer::new(plan, *side, false);
+    let Shared { plan, functions, next, first_differing } = shared;
+    let mut comparer = Comparer::new(plan, *functions, false);
     let mut difference = None;
     loop {
         let group = next.fetch_add(1, Ordering::Relaxed);
@@ -61,7 +62,7 @@ fn work(shared: &Shared) -> Part {
         }
         if run_group(plan, group, &mut comparer).is_err() {
             first_differing.fetch_min(group, Ordering::Relaxed);
-            difference = Some((group, first_difference(plan, *side, group)));
+            difference = Some((group, first_difference(plan, *functions, group)));
             break;
         }
     }
@@ -69,6 +70,7 @@ fn work(shared: &Shared) -> Part {
 }
 
 fn run_group(plan: &Plan, group: u64, comparer: &mut Comparer) -> Result<(), Alarm> {
+    comparer.begin();
     for list in plan.lists(group) {
         comparer.list(&list)?;
     }
@@ -76,8 +78,9 @@ fn run_group(plan: &Plan, group: u64, comparer: &mut Comparer) -> Result<(), Ala
 }
 
 /// Make the calls of a group anew and compare everything after each; the report on the first that differs.
-fn first_difference(plan: &Plan, side: Side, group: u64) -> String {
-    let mut comparer = Comparer::new(plan, side, true);
+fn first_difference(plan: &Plan, functions: Functions, group: u64) -> String {
+    let mut comparer = Comparer::new(plan, functions, true);
+    comparer.begin();
     for list in plan.lists(group) {
         match comparer.list(&list) {
             Ok(()) => {}
@@ -91,7 +94,7 @@ fn first_difference(plan: &Plan, side: Side, group: u64) -> String {
 #[cfg(test)]
 mod tests {
     use super::*;
-    use crate::sides::{counted, Outcome};
+    use crate::sides::{counted, Outcome, Side, LIBRARY};
     use second::generate::Chain;
     use second::Request;
 
@@ -100,7 +103,7 @@ mod tests {
 
     /// The call at which a faulty side is found out, with the report; `None` if it isn't.
     fn found(side: Side) -> Option<(u64, String)> {
-        let text = search(&PLAN, side).expect("no thread broke off").1?;
+        let text = search(&PLAN, Functions { attempt: side, ..LIBRARY }).expect("no thread broke off").1?;
         let number = text.strip_prefix("call ").and_then(|text| text.split(' ').next());
         Some((number.and_then(|number| number.parse().ok()).expect("a number"), text))
     }

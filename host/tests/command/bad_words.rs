@@ -45,6 +45,19 @@ fn fuzz() {
 }
 
 #[test]
+fn trail() {
+    let usage = "vma trail show FILE [--registers]\n";
+    refused(&["trail"], "no command is given", usage);
+    refused(&["trail", "shew"], "there is no command 'shew'", usage);
+    refused(&["trail", "shew", "--help"], "there is no command 'shew'", usage);
+    refused(&["trail", "show"], "FILE is missing", usage);
+    refused(&["trail", "show", "--registers"], "FILE is missing", usage);
+    refused(&["trail", "show", "one", "two"], "FILE is given twice", usage);
+    refused(&["trail", "show", "one", "--register"], "'--register' isn't known here", usage);
+    refused(&["trail", "show", "--registers", "one", "--registers"], "--registers is given twice", usage);
+}
+
+#[test]
 fn attempt() {
     let case = ssm(0x07);
     let before = case.snapshot();

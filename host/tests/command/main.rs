@@ -9,4 +9,5 @@ mod files;
 mod help;
 mod interrupted;
 mod manual;
+mod trail;
 mod whole;

@@ -1,4 +1,4 @@
-//! The manual page: its example works as it stands there, and its usage is the program's.
+//! The manual page: its examples work as they stand there, and its usage is the program's.
 
 use std::fs;
 use std::path::Path;
@@ -23,16 +23,26 @@ fn blocks(page: &str, heading: &str, start: &str, end: &str) -> Vec<String> {
     section.split(start).skip(1).map(block).collect()
 }
 
-#[test]
-fn example() {
-    let examples = blocks(&page(), "EXAMPLES", "\n.EX\n", "\n.EE\n");
+/// Run the example in a block: what it prints is in the next one. Gives its folder.
+fn example(block: usize, status: i32) -> Case {
+    let examples = blocks(&page(), "EXAMPLES", "\n.EX\n", "\n.EE");
     let case = Case::new("", &[], &record());
     let folder = Path::new(PROGRAM).parent().expect("a folder").display();
-    let script = format!("PATH='{folder}':$PATH\n{}", examples[0]);
+    let script = format!("PATH='{folder}':$PATH\n{}", examples[block]);
     let run = run(Command::new("sh").args(["-e", "-c", &script]).current_dir(&case.folder));
-    let expected = (Some(0), examples[1].clone() + "\n", String::new());
+    let expected = (Some(status), examples[block + 1].clone() + "\n", String::new());
     assert_eq!((run.status, run.output, run.messages), expected);
-    assert_eq!(case.read("storage")[0x600], 0x07);
+    case
+}
+
+#[test]
+fn set_system_mask() {
+    assert_eq!(example(0, 0).read("storage")[0x600], 0x07);
+}
+
+#[test]
+fn trail() {
+    example(3, 5);
 }
 
 #[test]
@@ -41,5 +51,5 @@ fn usage() {
     let help = vma(&["--help"]).output;
     let usage: Vec<&str> = help.split("\n\n").next().expect("usage").lines().map(|line| &line[7..]).collect();
     let synopsis: Vec<&str> = synopsis.lines().collect();
-    assert_eq!(synopsis[..4], usage);
+    assert_eq!(synopsis[..5], usage);
 }

@@ -28,10 +28,15 @@ fn demo() {
     }
 }
 
-/// The number of calls in each line of the tally.
-fn tally(output: &str) -> Vec<u64> {
-    let lines = output.lines().skip(2);
-    lines.map(|line| line.split_whitespace().next().expect("a number").parse().expect("a number")).collect()
+/// The numbers of calls by the endings, and those of writing calls.
+fn tally(output: &str) -> (Vec<u64>, Vec<u64>) {
+    let numbers = |lines: &str| -> Vec<u64> {
+        let first = |line: &str| line.split_whitespace().next().expect("a number").parse().expect("a number");
+        lines.lines().map(first).collect()
+    };
+    let (_, tally) = output.split_once(" calls, none differs\n       calls  ended with\n").expect("a tally");
+    let (endings, trails) = tally.split_once("       calls  in the trails\n").expect("both");
+    (numbers(endings), numbers(trails))
 }
 
 #[test]
@@ -45,18 +50,23 @@ fn fuzz() {
     ] {
         let run = vma(words);
         assert_eq!((run.status, run.messages.as_str()), (Some(0), ""), "{}", run.output);
-        assert!(run.output.starts_with(&format!("{calls} calls, none differs\n       calls  ended with\n")));
-        assert_eq!(tally(&run.output).iter().sum::<u64>(), calls);
+        assert!(run.output.starts_with(&format!("{calls} calls, none differs\n")));
+        let (endings, trails) = tally(&run.output);
+        assert_eq!([endings, trails].map(|calls| calls.iter().sum::<u64>()), [calls; 2]);
         assert_eq!(vma(words).output, run.output, "the same again");
     }
-    assert_eq!(vma(&["fuzz", "1", "0"]).output, "0 calls, none differs\n       calls  ended with\n");
+    let none = "0 calls, none differs\n       calls  ended with\n       calls  in the trails\n           0  went in\n";
+    assert!(vma(&["fuzz", "1", "0"]).output.starts_with(none));
 }
 
 #[test]
 fn fuzz_reaches_every_ending() {
     let run = vma(&["fuzz", "1", "20000"]);
+    let (endings, trails) = tally(&run.output);
     // Completed, six codes, and endings 2, 3, 9, 10, 11, 12 and 13.
-    assert_eq!(tally(&run.output).len(), 14, "{}", run.output);
+    assert_eq!(endings.len(), 14, "{}", run.output);
+    // Went in, turned away, refused by 20 and by 21.
+    assert!(trails.len() == 4 && trails.iter().all(|&calls| calls >= 500), "{}", run.output);
 }
 
 #[test]

@@ -76,10 +76,7 @@ impl VectorSet {
         let Shares { figures, single, in_lists, in_pairs } = self.shares;
         let seed = self.options.seed;
         let lists = format!("{in_lists} in lists, {in_pairs} in pairs of lists");
-        format!(
-            "seed {seed}: {single} single calls, {lists}, {figures} in figures\n{}",
-            self.tally.text()
-        )
+        format!("seed {seed}: {single} single calls, {lists}, {figures} in figures\n{}", self.tally.text())
     }
 
     fn call(&mut self, request: &Request) {

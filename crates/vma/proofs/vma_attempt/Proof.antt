@@ -1,6 +1,6 @@
-use Prim.Native.Nat.{_+_, _*_, _%_, _^_, _≤_}
+use Prim.Native.Nat.{_%_, _^_, _≤_}
 use native.Mathlib.Omega.{arith}
-use mathlib.Core.Path.{_≡_, sym, ap, _∙_, subst}
+use mathlib.Core.Path.{_≡_, ap, _∙_, subst}
 use lib.ListN.{length, set}
 use Rattle.rules.specs.declared.call.Call.{Call}
 use Rattle.rules.specs.Machine.{Machine}

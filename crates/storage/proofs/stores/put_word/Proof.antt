@@ -1,4 +1,4 @@
-use Rattle.storage.proofs.Words.{four-set}
+use Rattle.rules.proofs.Bytes.{four-set}
 use borrow.Author.Needs.{needs}
 use Rattle.storage.proofs.stores.put_word.Statement.{statement}
 use Rattle.storage.proofs.stores.put_word.Tie as tie

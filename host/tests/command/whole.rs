@@ -75,6 +75,11 @@ fn bench() {
     assert_eq!((run.status, run.messages.as_str()), (Some(0), ""));
     let rows = run.output.lines().filter(|line| line.contains("  DAT "));
     assert_eq!(rows.count(), 20);
+    for title in ["trail  goes in", "trail  is full"] {
+        for size in ["64 KiB", "16 MiB"] {
+            assert!(run.output.contains(&format!("\n{title}  {size}  ")), "{}", run.output);
+        }
+    }
     assert!(run.output.contains("\nlargest ratio library / plain: "));
     assert!(run.output.contains("\nlargest ratio of the library in 16 MiB / 64 KiB: "));
 }

@@ -93,7 +93,7 @@ nothing original records n k s =
       sound = same-sound original a b c s;
     }
 
--- the original call's record goes in, and then the others come
+-- the first call's record goes in, and then the others come
 goes-in : (original records : List ℕ) (n k : ℕ) (e : Entry) (es : List Entry) → Sound original records n k
     → hasRoom (length original) n ≡ true
     → After original (records ++ recordBytes n e) (n + 1) k es → After original records n k (e ∷ es)
@@ -118,7 +118,7 @@ goes-in original records n k e es s seen next =
       sound = same-sound original a b c (next .sound);
     }
 
--- the original call's record is turned away
+-- the first call's record is turned away, and then the others come
 stays-out : (original records : List ℕ) (n k : ℕ) (e : Entry) (es : List Entry) → Sound original records n k
     → hasRoom (length original) n ≡ false
     → After original records n (oneMore k) es → After original records n k (e ∷ es)

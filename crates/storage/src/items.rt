@@ -1,6 +1,6 @@
 // An item of storage: the byte, halfword or word from a real address on, each byte's address modulo 2^24.
 ghost use mathlib.Core.Path.{_≡_};
-ghost use Prim.Native.Nat.{_<_};
+ghost use Prim.Native.Nat.{_<_, _≤_};
 ghost use Rattle.storage.specs.Items.{found, held, itemAt, bytesIn};
 
 pub enum Width {
@@ -42,7 +42,8 @@ pub(crate) fn halfword_at(storage: &[u8], at: u32) -> Item
     Item::Of(left * 256 + right)
 }
 
-pub(crate) fn word_at(storage: &[u8], at: u32) -> Item
+// A word byte by byte, wherever its bytes are.
+fn word_by_bytes(storage: &[u8], at: u32) -> Item
     ensures { λ r. ⌜ found r ≡ itemAt (now (storage .entry)) at 4 ⌝ }
 {
     let Item::Of(left) = halfword_at(storage, at) else {
@@ -52,6 +53,34 @@ pub(crate) fn word_at(storage: &[u8], at: u32) -> Item
         return Item::Missing;
     };
     Item::Of(left * 65536 + right)
+}
+
+// A word that does not go round the top of storage: it is there exactly if its last byte is
+// (specs/Theorems.antt, LastByteDecides).
+fn word_by_last_byte(storage: &[u8], at: u32) -> Item
+    requires { ⌜ at ≤ 16777212 ⌝ }
+    ensures { λ r. ⌜ found r ≡ itemAt (now (storage .entry)) at 4 ⌝ }
+{
+    let i = at as usize;
+    if i + 3 < storage.len() {
+        return Item::Of(
+            wide(storage[i]) * 16777216
+                + wide(storage[i + 1]) * 65536
+                + wide(storage[i + 2]) * 256
+                + wide(storage[i + 3]),
+        );
+    }
+    Item::Missing
+}
+
+// From 2^24 - 3 on a word goes round.
+pub(crate) fn word_at(storage: &[u8], at: u32) -> Item
+    ensures { λ r. ⌜ found r ≡ itemAt (now (storage .entry)) at 4 ⌝ }
+{
+    if at <= 16777212 {
+        return word_by_last_byte(storage, at);
+    }
+    word_by_bytes(storage, at)
 }
 
 pub(crate) fn item_at(storage: &[u8], width: Width, at: u32) -> Item

@@ -14,7 +14,7 @@ use crate::command::{self, put_once, unknown, Action, Command, Failure, Report};
 
 pub const COMMAND: Command = Command { name: "bench", help: HELP, action: Action::Run(run) };
 
-const HELP: &str = "usage: vma bench [--quick]
+const HELP: &str = "usage: vma bench [--quick | --check]
 
 Measures the time of a call, by the proved library and by plain Rust (the second program without its list of
 references): attempts that complete, each of the five instructions with DAT off and on, in 64 KiB and in 16
@@ -25,6 +25,7 @@ plain; below, the largest of these ratios, and the largest ratio of the library'
 64 KiB.
 
   --quick  40 batches of 500 calls
+  --check  measures nothing: each call is made twice by both, for the comparison alone, and its name printed
 ";
 
 const SIZES: [(usize, &str); 2] = [(0x1_0000, "64 KiB"), (0x100_0000, "16 MiB")];
@@ -64,8 +65,14 @@ impl Row {
 fn run(words: &[OsString]) -> Result<Report, Failure> {
     let effort = effort(words)?;
     let mut rows = rows()?;
-    measure(&mut rows, effort);
-    Ok(Report::new(table(&mut rows, effort), command::COMPLETED))
+    let text = match effort {
+        None => rows.iter().map(|row| format!("{}\n", row.title)).collect(),
+        Some(effort) => {
+            measure(&mut rows, effort);
+            table(&mut rows, effort)
+        }
+    };
+    Ok(Report::new(text, command::COMPLETED))
 }
 
 /// Rows of one call in each of the sizes stand together.
@@ -90,15 +97,23 @@ fn rows() -> Result<Vec<Row>, Failure> {
     Ok(rows)
 }
 
-fn effort(words: &[OsString]) -> Result<Effort, Failure> {
-    let mut quick = None;
+/// How much to measure; none if it is only to be made sure that both give the same.
+fn effort(words: &[OsString]) -> Result<Option<Effort>, Failure> {
+    let mut chosen: Option<(&str, Option<Effort>)> = None;
     for word in words {
-        match word.to_str() {
-            Some(option @ "--quick") => put_once(&mut quick, option, ())?,
+        let (option, effort) = match word.to_str() {
+            Some(option @ "--quick") => (option, Some(QUICK)),
+            Some(option @ "--check") => (option, None),
             _ => return Err(unknown(word)),
+        };
+        match chosen {
+            Some((other, _)) if other != option => {
+                return Err(Failure::Usage(format!("{other} and {option} exclude each other")));
+            }
+            _ => put_once(&mut chosen, option, (option, effort))?,
         }
     }
-    Ok(if quick.is_some() { QUICK } else { FULL })
+    Ok(chosen.map_or(Some(FULL), |(_, effort)| effort))
 }
 
 /// Batches of all rows and both sides by turns: whatever slows the machine down for a while slows down all of

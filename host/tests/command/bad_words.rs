@@ -18,8 +18,11 @@ fn no_such_command() {
 #[test]
 fn commands_with_words_they_do_not_know() {
     refused(&["demo", "all"], "'all' isn't known here", "vma demo\n");
-    refused(&["bench", "--quick", "5"], "'5' isn't known here", "vma bench [--quick]\n");
-    refused(&["bench", "--quick", "--quick"], "--quick is given twice", "vma bench");
+    let usage = "vma bench [--quick | --check]\n";
+    refused(&["bench", "--quick", "5"], "'5' isn't known here", usage);
+    refused(&["bench", "--quick", "--quick"], "--quick is given twice", usage);
+    refused(&["bench", "--check", "--check"], "--check is given twice", usage);
+    refused(&["bench", "--quick", "--check"], "--quick and --check exclude each other", usage);
 }
 
 #[test]

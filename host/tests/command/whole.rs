@@ -83,3 +83,12 @@ fn bench() {
     assert!(run.output.contains("\nlargest ratio library / plain: "));
     assert!(run.output.contains("\nlargest ratio of the library in 16 MiB / 64 KiB: "));
 }
+
+#[test]
+fn bench_that_only_compares() {
+    let run = vma(&["bench", "--check"]);
+    assert_eq!((run.status, run.messages.as_str()), (Some(0), ""));
+    let titles: Vec<&str> = run.output.lines().collect();
+    assert_eq!(titles.len(), 24, "{}", run.output);
+    assert_eq!((titles[0], titles[23]), ("SSM    DAT off  64 KiB", "trail  is full  16 MiB"));
+}

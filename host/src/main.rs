@@ -31,7 +31,7 @@ const VMA: Command = Command {
 
 const HELP: &str = "usage: vma demo
        vma attempt --storage FILE --keys FILE --guest FILE --first HEX [--expanded]
-       vma bench [--quick]
+       vma bench [--quick | --check]
        vma fuzz SEED N [--largest BYTES]
        vma trail show FILE [--registers]
 

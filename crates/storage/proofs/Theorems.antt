@@ -5,15 +5,16 @@ use mathlib.Core.Path.{_≡_, refl, sym, ap, _∙_}
 use mathlib.Core.Bool.{Bool, true, false, _&&_}
 use lib.Dec.{ltb}
 use borrow.Author.Tests.{ltb-true, lt-ltb, le-ltb}
-use Rattle.rules.specs.Machine.{_⊕_, addresses, present, has}
+use Rattle.rules.specs.Machine.{_⊕_, has}
 use Rattle.storage.specs.Theorems.{LastByteDecides, NoneBeyond}
 
+-- before a test that it follows from, a test adds nothing
 implied : (b c : Bool) → (c ≡ true → b ≡ true) → c ≡ (b && c)
 implied true c h = refl
 implied false true h = sym (h refl)
 implied false false h = refl
 
--- the same for n + 1 bytes
+-- LastByteDecides for n + 1 bytes
 last-of : (n size a : ℕ) → a + n < 2 ^ 24 → ltb (a + n) size ≡ has size a (suc n)
 last-of zero size a h =
     let e : a + 0 ≡ a = omega arith in

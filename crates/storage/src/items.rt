@@ -73,7 +73,7 @@ fn word_by_last_byte(storage: &[u8], at: u32) -> Item
     Item::Missing
 }
 
-// From 2^24 - 3 on a word goes round.
+// From 2^24 - 3 on a word goes round the top of storage; an address of more than 24 bits is left as it is.
 pub(crate) fn word_at(storage: &[u8], at: u32) -> Item
     ensures { λ r. ⌜ found r ≡ itemAt (now (storage .entry)) at 4 ⌝ }
 {

@@ -55,7 +55,11 @@ enum {
  * Every call is answered, whatever the sizes, bytes, keys, words and halfword are: the answer says how it ended. On
  * completion (VMA_COMPLETED) the instruction's stores and its setting of a key are done, and guest holds the record
  * handed back: the instruction address is moved on by the instruction's length, modulo 2^24, and nothing else is
- * changed. On every other ending storage, keys and guest are as they were.
+ * changed. On every other ending storage and guest are as they were, and so are the keys but for reference bits.
+ *
+ * References are recorded in the keys as they are made: a fetch sets the reference bit (5, value 04) of every block of
+ * 2,048 bytes that it touches, a store the reference and change bits (5 and 6, value 06). What was recorded before an
+ * ending stays. Recording leaves the other bits of a key alone.
  *
  * The caller sees to it that storage points to storage_bytes bytes, keys to key_count bytes and guest to 21 words, that
  * no two of these overlap, and that nothing else reads or writes them during the call. A pointer whose count is 0 isn't

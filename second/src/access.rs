@@ -34,7 +34,8 @@ pub fn fetch_operand_byte(
     fetch(machine, guest, ReferenceKind::OperandByte, logical).map(u8::from_be_bytes)
 }
 
-/// Test an item of N bytes at a logical address for store access; gives the real address.
+/// Test an item of N bytes at a logical address for store access; gives the real address. The test records what it
+/// fetches from tables, and nothing in the blocks of the item.
 #[inline]
 pub fn test_store<const N: usize>(
     machine: &mut Machine<impl References>,

@@ -1,10 +1,15 @@
-//! Lent storage and keys, with what becomes of the references made to them.
+//! Lent storage and keys, with what becomes of the references made to them, and the recording of accesses (document
+//! 02, R-13): every entry that reads or stores an item is made in `fetch` or `store`, and these record it.
 //!
 //! The small functions are `inline`, as they are used from another crate too; nothing forces the compiler.
 
 use crate::address::{add, KEY_BLOCK};
 use crate::ending::Ending;
 use crate::references::{ReferenceKind, References};
+
+/// Reference bit (5) and change bit (6) of a key.
+pub const KEY_REFERENCE: u8 = 0x04;
+pub const KEY_CHANGE: u8 = 0x02;
 
 /// Storage, keys, the references so far and the step that the attempt has reached.
 ///
@@ -39,12 +44,13 @@ impl<'a, R: References> Machine<'a, R> {
         self.bytes::<N>(address).is_some()
     }
 
-    /// Fetch the N bytes of an item at a real address; one entry is made.
-    /// An item of which any byte is not in storage makes no entry: `None`.
+    /// Fetch the N bytes of an item at a real address; one entry is made, and the blocks' reference bits are set.
+    /// An item of which any byte is not in storage makes no entry and records nothing: `None`.
     #[inline]
     pub fn fetch<const N: usize>(&mut self, kind: ReferenceKind, address: u32) -> Option<[u8; N]> {
         let bytes = self.bytes(address)?;
         self.references.item(kind, address, N as u32);
+        self.record::<N>(address, KEY_REFERENCE);
         Some(bytes)
     }
 
@@ -59,7 +65,8 @@ impl<'a, R: References> Machine<'a, R> {
         self.fetch(kind, address).ok_or(Ending::NotInStorage { step })
     }
 
-    /// Store bytes at a real address that has been found to be in storage; one entry is made.
+    /// Store bytes at a real address that has been found to be in storage; one entry is made, and the blocks'
+    /// reference and change bits are set.
     #[inline]
     pub fn store<const N: usize>(&mut self, address: u32, bytes: [u8; N]) {
         let start = address as usize;
@@ -68,9 +75,29 @@ impl<'a, R: References> Machine<'a, R> {
             None => store_one_by_one(self.storage, address, &bytes),
         }
         self.references.item(ReferenceKind::Store, address, N as u32);
+        self.record::<N>(address, KEY_REFERENCE | KEY_CHANGE);
     }
 
-    /// Consult the key of the block with this real address; one entry is made.
+    /// Set these bits in the key of every block that the item touches; its other bits stay. An item has at most
+    /// four bytes, so no block lies between those of its first and its last byte.
+    #[inline]
+    fn record<const N: usize>(&mut self, address: u32, bits: u8) {
+        let first = address / KEY_BLOCK;
+        let last = add(address, N as u32 - 1) / KEY_BLOCK;
+        self.record_block(first, bits);
+        if last != first {
+            self.record_block(last, bits);
+        }
+    }
+
+    #[inline]
+    fn record_block(&mut self, number: u32, bits: u8) {
+        if let Some(key) = self.keys.get_mut(number as usize) {
+            *key |= bits;
+        }
+    }
+
+    /// Consult the key of the block with this real address; one entry is made. Key entries record nothing.
     #[inline]
     pub fn consult_key(&mut self, real_address: u32) -> u8 {
         let number = real_address / KEY_BLOCK;

@@ -1,7 +1,9 @@
-//! Two lists of calls on one storage: what each consults and changes when it runs alone, and orders of both.
+//! Two lists of calls on one storage: what each consults and changes when it runs alone, and orders of both. Demand
+//! 3 is that of document 01 as document 02, R-13 restates it: parts are whole blocks with their keys.
 
 use std::collections::BTreeSet;
 
+use crate::address::KEY_BLOCK;
 use crate::attempt::Answer;
 use crate::call::{Request, StorageImage};
 use crate::references::ReferenceKind;
@@ -30,13 +32,15 @@ pub struct Run {
     pub keys: Vec<u8>,
     /// Every byte and key that an entry of the list of references names, stores included.
     pub consulted: Part,
-    /// The bytes stored and the keys set.
+    /// The bytes stored and the keys set, as store and key-set entries name them. The bits that accesses record in
+    /// keys are not among them: those of stores are in the blocks of `part`, those of reads are left aside.
     pub changed: Part,
 }
 
 impl Part {
-    fn meets(&self, other: &Part) -> bool {
-        !self.bytes.is_disjoint(&other.bytes) || !self.keys.is_disjoint(&other.keys)
+    /// The blocks in which the bytes lie and to which the keys belong, by number.
+    pub fn blocks(&self) -> BTreeSet<u32> {
+        self.bytes.iter().map(|byte| byte / KEY_BLOCK).chain(self.keys.iter().copied()).collect()
     }
 }
 
@@ -70,6 +74,12 @@ impl Run {
         }
     }
 
+    /// The smallest part that the list can have: whole blocks in which it stores, or whose key it sets. A block whose
+    /// reference bit a call reads is always among them, as SSK step 11 sets the key that it has read.
+    pub fn part(&self) -> BTreeSet<u32> {
+        self.changed.blocks()
+    }
+
     pub fn completed(&self) -> usize {
         self.answers.iter().filter(|answer| answer.ending.number() == 0).count()
     }
@@ -101,7 +111,10 @@ impl Pair {
     }
 }
 
-/// The premise of demand 3: neither list, run alone, consults what the other stores or sets.
+/// The premise of demand 3: neither list, run alone, consults a byte or key of the other's part. If two lists have
+/// parts of which this is true, it is true of their smallest ones.
 pub fn keep_to_their_parts(alone: &[Run; 2]) -> bool {
-    !alone[0].consulted.meets(&alone[1].changed) && !alone[1].consulted.meets(&alone[0].changed)
+    let [first, second] = alone;
+    first.consulted.blocks().is_disjoint(&second.part())
+        && second.consulted.blocks().is_disjoint(&first.part())
 }

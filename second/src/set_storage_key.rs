@@ -5,13 +5,10 @@ use crate::bits::{halfword_bits, word_bit, word_bits};
 use crate::control_block::{fetch_field_halfword, fetch_field_word, fetch_micrseg};
 use crate::ending::Ending;
 use crate::guest::Guest;
-use crate::machine::Machine;
+use crate::machine::{Machine, KEY_CHANGE, KEY_REFERENCE};
 use crate::references::References;
 use crate::translation::{page_table_origin, segment_table_origin, Format};
 
-/// Reference bit 5 and change bit 6 of a key.
-const KEY_REFERENCE: u8 = 0x04;
-const KEY_CHANGE: u8 = 0x02;
 /// Key bits 0-4: access and fetch protection.
 const KEY_ACCESS_AND_FETCH: u8 = 0xF8;
 /// Key bit 7 is ignored and left as found.
@@ -136,7 +133,7 @@ fn fetch_page_entry(
     Ok(Some(format.real_address(entry, address)))
 }
 
-/// Step 11 for a valid page: gives the key as found.
+/// Step 11 for a valid page: gives the key as found, with what the fetches of the steps before have recorded.
 #[inline]
 fn exchange_key(
     machine: &mut Machine<impl References>,

@@ -58,7 +58,7 @@ fn edges_prints_one_line_each() {
 fn edge_lines_have_their_form() {
     let text = String::from_utf8_lossy(&second(&["edges"]).stdout).into_owned();
     let line = "SSM   (*) EC, old 04, new 07 | ending 0 completed | count 9 | next 001004 | \
-                bytes: 000600: 04 -> 07; keys: none";
+                bytes: 000600: 04 -> 07; keys: 0: 00 -> 06, 2: 00 -> 04, 4: 00 -> 04";
     assert!(text.lines().any(|one| one == line));
     let text = String::from_utf8_lossy(&second(&["edges", "--large"]).stdout).into_owned();
     let line = "STCTL storage one block over 16 MiB | ending 10 storage size | count 0 | next 001000 | \

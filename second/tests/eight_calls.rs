@@ -91,7 +91,9 @@ fn trail_file_is_cut_after_its_trailer() {
     assert_eq!(file, buffer[..656]);
 }
 
-/// What the calls leave: SSM's 07, STCTL's registers 14, 15, 0 and 1, SSK's key and swap word (page 3).
+/// What the calls leave: SSM's 07, STCTL's registers 14, 15, 0 and 1, SSK's key and swap word (page 3). SSK finds the
+/// reference bit of block 2, which the fetches of second halfwords have recorded. Block 0 has MICBLOK, ECBLOK and
+/// virtual PSW (stored by SSM), 1 the tables of SSK, 4 the operand (read by SSM, stored by STCTL), 6 the DAT tables.
 #[test]
 fn what_the_calls_leave() {
     let image = second::eight_calls::image();
@@ -106,7 +108,9 @@ fn what_the_calls_leave() {
     {
         expected.put_word(address, word);
     }
-    expected.put_word(0xD18, 0x0000_3E00);
-    expected.put_key(2, 0x38);
+    expected.put_word(0xD18, 0x0800_3E00);
+    for (number, key) in [(0, 0x06), (1, 0x06), (2, 0x38), (4, 0x06), (6, 0x04)] {
+        expected.put_key(number, key);
+    }
     assert!(storage == expected.storage() && keys == expected.key_bytes());
 }

@@ -1,27 +1,29 @@
 //! Properties of every attempt, over random calls and lists of calls.
 
+#[path = "common/recorded.rs"]
+mod recorded;
+
 use std::collections::BTreeSet;
 
+use recorded::keys_after;
 use second::generate::{generate, generate_chain, generate_undamaged};
 use second::{attempt, Answer, Guest, ReferenceKind, Request};
 
 /// What holds of every answer, given storage and keys before and after.
 fn check(request: &Request, answer: &Answer, storage: (&[u8], &[u8]), keys: (&[u8], &[u8])) {
     assert!(answer.count() <= 85);
+    assert_eq!(keys.1, keys_after(keys.0, request, &answer.references));
     if answer.ending.number() != 0 {
-        assert!(storage.0 == storage.1 && keys.0 == keys.1);
+        assert!(storage.0 == storage.1);
         assert_eq!(answer.guest, request.guest);
+        check_reference_bits(answer, keys);
         return;
     }
     let named = |kind: ReferenceKind| answer.references.iter().filter(move |entry| entry.kind == kind);
     let stored: BTreeSet<u32> =
         named(ReferenceKind::Store).flat_map(|entry| entry.bytes.iter().copied()).collect();
-    let set: BTreeSet<u32> = named(ReferenceKind::KeySet).filter_map(|entry| entry.key).collect();
     for (place, _, _) in second::call::changes(storage.0, storage.1) {
         assert!(stored.contains(&place));
-    }
-    for (number, _, _) in second::call::changes(keys.0, keys.1) {
-        assert!(set.contains(&number));
     }
     let mut record = answer.guest;
     assert_ne!(record.psw_32_63, request.guest.psw_32_63);
@@ -32,6 +34,17 @@ fn check(request: &Request, answer: &Answer, storage: (&[u8], &[u8]), keys: (&[u
         assert!(entry.bytes.iter().all(|&byte| (byte as usize) < storage.0.len()));
         assert!(entry.key.is_none_or(|number| (number as usize) < keys.0.len()));
         assert_eq!(entry.bytes.is_empty(), entry.key.is_some());
+    }
+}
+
+/// Demand 1 with R-13: no bit of a key but the reference bit changes, and that is one afterwards exactly if it was one
+/// or an entry touches the block.
+fn check_reference_bits(answer: &Answer, keys: (&[u8], &[u8])) {
+    let touched: BTreeSet<u32> =
+        answer.references.iter().flat_map(|entry| entry.bytes.iter().map(|byte| byte / 2_048)).collect();
+    for (number, (before, after)) in (0..).zip(keys.0.iter().zip(keys.1)) {
+        assert_eq!(before & 0xFB, after & 0xFB);
+        assert_eq!(after & 0x04 != 0, before & 0x04 != 0 || touched.contains(&number));
     }
 }
 

@@ -86,8 +86,11 @@ fn block_of_the_real_address_counts() {
 }
 
 #[test]
-fn keys_are_not_changed_by_accesses() {
-    // Reference and change recording by ordinary accesses is not modelled.
-    let ran = expect(&Setup::stctl(1, 0).key(4, 0x01).key(2, 0x01), COMPLETED, 51);
-    assert_eq!(ran.keys, []);
+fn recorded_bits_do_not_protect() {
+    // Every combination of the three right bits: only the left five decide.
+    for right_bits in 0..8 {
+        let setup = Setup::stctl(5, 5).psw_key(1).key(2, 0x20 | right_bits);
+        expect(&setup.clone().key(4, 0x10 | right_bits), COMPLETED, 6);
+        expect(&setup.key(4, 0x20 | right_bits), PROTECTION, 5);
+    }
 }

@@ -1,4 +1,4 @@
-//! SSK, step by step.
+//! SSK, step by step. MICBLOK is in block 0, which is read (04), the tables in block 1, which is also stored in (06).
 
 mod common;
 
@@ -28,7 +28,7 @@ fn segments_of_1m() {
     assert_eq!(ran.named_bytes(3)[0], 0xE18);
     assert_eq!(ran.named_bytes(4)[0], 0xC56);
     assert_eq!(ran.bytes, [(0xE18, 0, 0x0C), (0xE1A, 0, 0x3E)]);
-    assert_eq!(ran.keys, [(2, 0x06, 0x38)]);
+    assert_eq!(ran.keys, [(0, 0x00, 0x04), (1, 0x00, 0x06), (2, 0x06, 0x38)]);
 }
 
 #[test]
@@ -57,7 +57,7 @@ fn registers_0_and_the_same() {
     setup.first_halfword = 0x0800;
     setup.guest.general_registers[0] = 0x0002_3000;
     let ran = expect(&setup, COMPLETED, 8);
-    assert_eq!(ran.keys, [(2, 0xFE, 0x00)]);
+    assert_eq!(ran.keys, [(0, 0x00, 0x04), (1, 0x00, 0x06), (2, 0xFE, 0x00)]);
     assert_eq!(ran.bytes, [(0xD18, 0, 0x0C)]);
 }
 
@@ -152,7 +152,7 @@ fn step_11_invalid_page() {
         let ran = expect(&setup, COMPLETED, 6);
         assert_eq!(ran.kinds()[5..], [Store]);
         assert_eq!(ran.bytes, [(0xD1A, 0xFF, 0x3E)]);
-        assert_eq!(ran.keys, []);
+        assert_eq!(ran.keys, [(0, 0x00, 0x04), (1, 0x00, 0x06)]);
     }
 }
 
@@ -163,7 +163,8 @@ fn step_11_key_bit_7_left_as_found() {
     {
         let mut setup = Setup::ssk().key(2, old);
         setup.guest.general_registers[3] = low_byte;
-        assert_eq!(expect(&setup, COMPLETED, 8).keys, [(2, old, new)]);
+        let keys = [(0, 0x00, 0x04), (1, 0x00, 0x06), (2, old, new)];
+        assert_eq!(expect(&setup, COMPLETED, 8).keys, keys);
     }
 }
 

@@ -6,7 +6,8 @@ use mathlib.Core.Path.{_≡_, refl, ap}
 use mathlib.Core.List.{List, [], _∷_}
 use lib.ListN.{length, getD, take, drop, length-take}
 use lib.Seq.{drop-cons, getD-take}
-use Rattle.rules.specs.Machine.{Machine, store, perform, performAll}
+use Rattle.rules.specs.Machine.{Machine}
+use Rattle.rules.specs.Writes.{store, perform, performAll}
 use Rattle.rules.specs.StoreControl.{wordStores}
 
 -- what is left of the first n of a list, from i on

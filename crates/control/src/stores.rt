@@ -2,7 +2,7 @@
 ghost use Prim.Native.Nat.{_≤_};
 ghost use mathlib.Core.Path.{_≡_};
 ghost use lib.ListN.{take};
-ghost use Rattle.rules.specs.Machine.{performAll};
+ghost use Rattle.rules.specs.Writes.{performAll};
 ghost use Rattle.rules.specs.StoreControl.{wordStores};
 ghost use Rattle.storage.specs.Answers.{machine};
 

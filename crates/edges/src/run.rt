@@ -2,6 +2,7 @@
 use crate::edge::Edge;
 use crate::image::Part;
 use crate::image::fill;
+use crate::recording;
 use crate::report::print_answer;
 use crate::report::print_changes;
 use crate::set_storage_key;
@@ -29,6 +30,7 @@ pub(crate) enum Group {
     StoreControl,
     SystemMasks,
     SetStorageKey,
+    Recording,
     WrongTurns,
 }
 
@@ -37,6 +39,7 @@ fn edge_of(group: Group, number: usize) -> Edge {
         Group::StoreControl => store_control::edge(number),
         Group::SystemMasks => system_masks::edge(number),
         Group::SetStorageKey => set_storage_key::edge(number),
+        Group::Recording => recording::edge(number),
         Group::WrongTurns => wrong_turns::edge(number),
     }
 }

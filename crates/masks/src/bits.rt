@@ -2,7 +2,7 @@
 ghost use mathlib.Core.Path.{_≡_};
 ghost use mathlib.Core.Bool.{not, _&&_};
 ghost use Prim.Native.Nat.{_<_};
-ghost use Rattle.rules.specs.Machine.{perform, store};
+ghost use Rattle.rules.specs.Writes.{perform, store};
 ghost use Rattle.rules.specs.Masks.{maskIn, extendedIn, atAny, allBits, rises};
 ghost use Rattle.storage.specs.Answers.{machine};
 

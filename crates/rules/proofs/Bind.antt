@@ -9,6 +9,7 @@ use mathlib.Core.List.{_∷_}
 use Rattle.rules.specs.Endings.{Ending}
 use Rattle.rules.specs.Machine.{Machine, has, value}
 use Rattle.rules.specs.References.{Reference, seenAs, fetched, consulted}
+use Rattle.rules.specs.Recording.{noted, notedAll}
 use Rattle.rules.specs.Steps.{Steps, done, stop, fetch, key, branch, _>>=_, endingAs}
 use Rattle.rules.specs.Run.{Outcome, ended, gave, Run, item, run, View, view}
 
@@ -18,7 +19,7 @@ following (ended e) n m g = record { outcome = ended e; count = n; left = m }
 following (gave a) n m g = let x = g a m in record { outcome = x .outcome; count = n + x .count; left = x .left }
 
 abbrev viewed : {A : Type 0} → Run A → Machine → View A
-viewed r m = record { outcome = r .outcome; count = length (r .references); left = m }
+viewed r m = record { outcome = r .outcome; count = length (r .references); left = notedAll m (r .references) }
 
 abbrev one-more : {A : Type 0} → View A → View A
 one-more x = record { outcome = x .outcome; count = suc (x .count); left = x .left }
@@ -31,22 +32,26 @@ more (gave a) n m g =
 
 item-view : {A B : Type 0} (b : Bool) (r : Reference) (m : Machine) (e : Ending) (v : ℕ) (k : ℕ → Run A)
     (l : ℕ → Run B) (g : A → Machine → View B)
-    → viewed (l v) m ≡ following (k v .outcome) (length (k v .references)) m g
-    → viewed (item b r e v l) m ≡ following (item b r e v k .outcome) (length (item b r e v k .references)) m g
+    → viewed (l v) (noted m r)
+    ≡ following (k v .outcome) (length (k v .references)) (notedAll (noted m r) (k v .references)) g
+    → viewed (item b r e v l) m
+    ≡ (let x = item b r e v k in following (x .outcome) (length (x .references)) (notedAll m (x .references)) g)
 item-view false r m e v k l g h = refl
-item-view true r m e v k l g h = ap one-more h ∙ more (k v .outcome) (length (k v .references)) m g
+item-view true r m e v k l g h =
+    ap one-more h ∙ more (k v .outcome) (length (k v .references)) (notedAll (noted m r) (k v .references)) g
 
 pub view-bind : {A B : Type 0} (p : Steps A) (f : A → Steps B) (m : Machine)
     → view (p >>= f) m ≡ following (view p m .outcome) (view p m .count) (view p m .left) (λ a n. view (f a) n)
 unfolding _>>=_
 view-bind (done a) f m =
-    ap (λ c. record { outcome = run (f a) m .outcome; count = c; left = m })
+    ap (λ c. record { outcome = run (f a) m .outcome; count = c; left = notedAll m (run (f a) m .references) })
     (sym (zero-add (length (run (f a) m .references))))
 view-bind (stop e) f m = refl
 view-bind (fetch a n e next) f m =
     let v = value (m .storage) a n in
-    item-view (has (length (m .storage)) a n) (fetched a n) m e v (λ v. run (next v) m) (λ v. run (next v >>= f) m)
-    (λ x m. view (f x) m) (view-bind (next v) f m)
+    let m′ = noted m (fetched a n) in
+    item-view (has (length (m .storage)) a n) (fetched a n) m e v (λ v. run (next v) m′) (λ v. run (next v >>= f) m′)
+    (λ x m. view (f x) m) (view-bind (next v) f m′)
 view-bind (key u b e next) f m =
     let v = seenAs u (getD (m .keys) b 0) in
     item-view (ltb b (length (m .keys))) (consulted u b) m e v (λ v. run (next v) m) (λ v. run (next v >>= f) m)
@@ -75,8 +80,9 @@ run-endingAs f (done a) m = refl
 run-endingAs f (stop e) m = refl
 run-endingAs f (fetch a n e next) m =
     let v = value (m .storage) a n in
-    item-recast f (has (length (m .storage)) a n) (fetched a n) e v (λ v. run (next v) m)
-    (λ v. run (endingAs f (next v)) m) (run-endingAs f (next v) m)
+    let m′ = noted m (fetched a n) in
+    item-recast f (has (length (m .storage)) a n) (fetched a n) e v (λ v. run (next v) m′)
+    (λ v. run (endingAs f (next v)) m′) (run-endingAs f (next v) m′)
 run-endingAs f (key u b e next) m =
     let v = seenAs u (getD (m .keys) b 0) in
     item-recast f (ltb b (length (m .keys))) (consulted u b) e v (λ v. run (next v) m)

@@ -1,5 +1,6 @@
 -- To compute an attempt, every definition that is shut is opened: `unfolding computing`.
 use Rattle.rules.specs.Steps.{_>>=_, fetchBytes, consultKey, stopIf, endingAs}
+use Rattle.rules.specs.Recording.{marked}
 use Rattle.rules.specs.Translation.{formatOf, segmentEntry, pageAddress, translate}
 use Rattle.rules.specs.Access.{realOf, keyTest, access, logicalFetch}
 use Rattle.rules.specs.Call.{complete}
@@ -19,7 +20,7 @@ use Rattle.rules.specs.Attempt.{admitted, instruction}
 
 -- what every instruction reads by
 unfoldable pub walking : Unit {0}
-unfolding _>>=_ fetchBytes consultKey stopIf endingAs formatOf segmentEntry pageAddress translate realOf keyTest
+unfolding marked _>>=_ fetchBytes consultKey stopIf endingAs formatOf segmentEntry pageAddress translate realOf keyTest
     access
 walking = tt
 

@@ -7,5 +7,9 @@ pub mod Small
 pub mod Bytes
 pub mod All
 pub mod Puts
+pub mod Recording
+pub mod Reading
+pub mod Acts
+pub mod Together
 pub mod Local
 pub mod Theorems

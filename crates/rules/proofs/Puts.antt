@@ -1,4 +1,4 @@
--- Values put at places of a list, one after the other: what a list of writes does to storage, and what it does to keys.
+-- Values put at places of a list, one after the other: what a list of writes does to storage.
 use Prim.Native.Nat.{ℕ, _≤_, _<_}
 use mathlib.Core.Path.{_≡_, refl, sym, ap, _∙_, subst}
 use mathlib.Core.Bool.{Bool, true, false, cond, _&&_}
@@ -7,7 +7,8 @@ use lib.ListN.{length, getD, set, length-set}
 use lib.Dec.{ltb, eqb}
 use lib.Seq.{set-out, getD-set-same, getD-set-other}
 use borrow.Author.Tests.{ltb-true, ltb-false, eqb-true, eqb-false}
-use Rattle.rules.specs.Machine.{Machine, addresses, byteOf, stored, Write, store, setKey, perform, performAll}
+use Rattle.rules.specs.Machine.{Machine, addresses, byteOf, stored}
+use Rattle.rules.specs.Writes.{Write, store, setKey, perform, performAll}
 use Rattle.rules.specs.Theorems.Isolation.{All}
 
 pub record Put : Type 0 where
@@ -27,7 +28,7 @@ length-puts s [] = refl
 length-puts s (x ∷ xs) = length-puts (set s (x .place) (x .value)) xs ∙ length-set s (x .place) (x .value)
 
 -- place a, of so many, is set where i is a
-set-at : (s : List ℕ) (i v a : ℕ) → getD (set s i v) a 0 ≡ cond (eqb i a && ltb a (length s)) v (getD s a 0)
+pub set-at : (s : List ℕ) (i v a : ℕ) → getD (set s i v) a 0 ≡ cond (eqb i a && ltb a (length s)) v (getD s a 0)
 set-at s i v a = go (eqb i a) (ltb a (length s)) refl refl
   where
     go : (b c : Bool) → eqb i a ≡ b → ltb a (length s) ≡ c → getD (set s i v) a 0 ≡ cond (b && c) v (getD s a 0)
@@ -79,11 +80,6 @@ inStorage [] = []
 inStorage (store a n v ∷ ws) = bytesPut (addresses a n) v ++ inStorage ws
 inStorage (setKey b v ∷ ws) = inStorage ws
 
-abbrev pub inKeys : List Write → List Put
-inKeys [] = []
-inKeys (store a n v ∷ ws) = inKeys ws
-inKeys (setKey b v ∷ ws) = record { place = b; value = v } ∷ inKeys ws
-
 pub performed-storage : (m : Machine) (ws : List Write) → performAll m ws .storage ≡ puts (m .storage) (inStorage ws)
 performed-storage m [] = refl
 performed-storage m (store a n v ∷ ws) =
@@ -91,8 +87,3 @@ performed-storage m (store a n v ∷ ws) =
     ∙ ap (λ s. puts s (inStorage ws)) (stored-puts (m .storage) (addresses a n) v)
     ∙ sym (puts-append (m .storage) (bytesPut (addresses a n) v) (inStorage ws))
 performed-storage m (setKey b v ∷ ws) = performed-storage (perform m (setKey b v)) ws
-
-pub performed-keys : (m : Machine) (ws : List Write) → performAll m ws .keys ≡ puts (m .keys) (inKeys ws)
-performed-keys m [] = refl
-performed-keys m (store a n v ∷ ws) = performed-keys (perform m (store a n v)) ws
-performed-keys m (setKey b v ∷ ws) = performed-keys (perform m (setKey b v)) ws

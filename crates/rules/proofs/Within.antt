@@ -10,6 +10,7 @@ use lib.Dec.{ltb}
 use Rattle.rules.specs.Endings.{Ending}
 use Rattle.rules.specs.Machine.{Machine, has, value}
 use Rattle.rules.specs.References.{Reference, seenAs, fetched, consulted}
+use Rattle.rules.specs.Recording.{noted}
 use Rattle.rules.specs.Steps.{Steps, done, stop, fetch, key, branch, _>>=_, endingAs}
 use Rattle.rules.specs.Run.{Outcome, ended, gave, Run, run, item}
 
@@ -100,8 +101,9 @@ module _ {A : Type 0} (E : Ending → Type 0) (G : A → ℕ → Type 0) where
   run-came (fetch a c e next) zero m h = absurd h
   run-came (fetch a c e next) (suc n) m h =
       let v = value (m .storage) a c in
-      item-came n (has (length (m .storage)) a c) (fetched a c) e v (λ v. run (next v) m) (h .0)
-      (run-came (next v) n m (h .1 v))
+      let m′ = noted m (fetched a c) in
+      item-came n (has (length (m .storage)) a c) (fetched a c) e v (λ v. run (next v) m′) (h .0)
+      (run-came (next v) n m′ (h .1 v))
   run-came (key u b e next) zero m h = absurd h
   run-came (key u b e next) (suc n) m h =
       let v = seenAs u (getD (m .keys) b 0) in

@@ -16,8 +16,10 @@ use Rattle.rules.specs.Endings.{
 }
 pub use Rattle.rules.specs.declared.answer.Answer.{Answer}
 use Rattle.rules.specs.Guest.{Guest, instructionAddress, extendedControl, problemState}
-use Rattle.rules.specs.Machine.{Machine, performAll}
-use Rattle.rules.specs.References.{Reference, entry}
+use Rattle.rules.specs.Machine.{Machine}
+use Rattle.rules.specs.Writes.{performAll, entry}
+use Rattle.rules.specs.References.{Reference}
+use Rattle.rules.specs.Recording.{notedAll}
 use Rattle.rules.specs.Steps.{Steps, branch, _>>=_, _>>_, stopIf}
 use Rattle.rules.specs.Run.{Outcome, ended, gave, Run, run}
 use Rattle.rules.specs.Call.{Call, operation, Completion}
@@ -88,10 +90,11 @@ answered e g rs m = record {
   after = m;
 }
 
--- completion makes the writes; every other ending leaves all as it was
+-- what was recorded by reading stays; completion makes the writes, and every other ending none
 abbrev pub conclude : Machine → Guest → List Reference → Outcome Completion → Result
-conclude m g rs (ended e) = answered e g rs m
-conclude m g rs (gave c) = answered Completed (c .guest) (rs ++ map entry (c .writes)) (performAll m (c .writes))
+conclude m g rs (ended e) = answered e g rs (notedAll m rs)
+conclude m g rs (gave c) =
+    answered Completed (c .guest) (rs ++ map entry (c .writes)) (performAll (notedAll m rs) (c .writes))
 
 abbrev pub reading : Machine → Call → Run Completion
 reading m c = run (program (length (m .storage)) (length (m .keys)) c) m

@@ -5,7 +5,7 @@ use mathlib.Core.Bool.{cond}
 use mathlib.Core.List.{List}
 use Rattle.rules.specs.Guest.{Guest, advance}
 use Rattle.rules.specs.Bits.{halfword}
-use Rattle.rules.specs.Machine.{Write}
+use Rattle.rules.specs.Writes.{Write}
 use Rattle.rules.specs.Endings.{Ending, Expanded, refuse}
 use Rattle.rules.specs.Steps.{Steps, done}
 -- the record, the first halfword, and whether the expanded assist is installed

@@ -8,6 +8,8 @@ pub mod Guest
 pub mod Endings
 -- "References, in order", and programs that make them
 pub mod References
+pub mod Recording
+pub mod Writes
 pub mod Steps
 pub mod Run
 -- "Addresses and translation"

@@ -1,4 +1,4 @@
--- Storage and keys, as the caller lends them; addresses; what it means that an item is in storage; stores.
+-- Storage and keys, as the caller lends them; addresses; what it means that an item is in storage; bytes stored.
 -- A block, document 01's "key block", is 2,048 bytes of storage, which share a key.
 -- Document 01, "What is modelled" and "Addresses and translation".
 use Prim.Native.Nat.{ℕ, zero, suc, _+_, _*_, _/_, _%_, _^_}
@@ -50,17 +50,3 @@ byteOf (suc n) v = v / 256 ^ suc n % 256
 abbrev pub stored : (storage at : List ℕ) (v : ℕ) → List ℕ
 stored storage [] v = storage
 stored storage (a ∷ rest) v = stored (set storage a (byteOf (length rest) v)) rest v
-
--- What a completed attempt does: a store of so many bytes at a real address, or a key set.
-pub data Write : Type 0 where
-  store : (address bytes value : ℕ) → Write
-  setKey : (block value : ℕ) → Write
-
-abbrev pub perform : Machine → Write → Machine
-perform m (store a n v) = record { storage = stored (m .storage) (addresses a n) v; keys = m .keys }
-perform m (setKey b v) = record { storage = m .storage; keys = set (m .keys) b v }
-
--- In order: where two stores share an address, the later one stays.
-abbrev pub performAll : Machine → List Write → Machine
-performAll m [] = m
-performAll m (w ∷ ws) = performAll (perform m w) ws

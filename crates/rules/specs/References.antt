@@ -4,7 +4,7 @@ use Prim.Native.Nat.{ℕ, _/_}
 use mathlib.Core.List.{List, [], _∷_}
 pub use Rattle.rules.specs.declared.keys.KeyUse.{KeyUse}
 pub use Rattle.rules.specs.declared.keys.KeyUse.the-variants.{ForProtection, Whole}
-use Rattle.rules.specs.Machine.{addresses, Write, store, setKey}
+use Rattle.rules.specs.Machine.{addresses}
 
 -- What a key is consulted for: protection, which sees bits 0-4 alone, or whole (SET STORAGE KEY, step 11).
 abbrev pub seenAs : KeyUse → (key : ℕ) → ℕ
@@ -30,8 +30,3 @@ keysOf (fetched a n) = []
 keysOf (consulted u b) = b ∷ []
 keysOf (wrote a n) = []
 keysOf (keySet b) = b ∷ []
-
--- the entry that a write makes
-abbrev pub entry : Write → Reference
-entry (store a n v) = wrote a n
-entry (setKey b v) = keySet b

@@ -27,7 +27,8 @@ use Rattle.rules.specs.Translation.{
   realAddress,
 }
 use Rattle.rules.specs.Bits.{bits, bit, word}
-use Rattle.rules.specs.Machine.{_⊕_, Write, store, setKey}
+use Rattle.rules.specs.Machine.{_⊕_}
+use Rattle.rules.specs.Writes.{Write, store, setKey}
 use Rattle.rules.specs.References.{Whole}
 use Rattle.rules.specs.Guest.{register}
 use Rattle.rules.specs.Steps.{Steps, done, branch, _>>=_, _>>_, consultKey, stopIf}

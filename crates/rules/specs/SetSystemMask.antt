@@ -5,7 +5,7 @@ use mathlib.Core.Bool.{Bool, not, _&&_, _||_}
 use mathlib.Core.List.{[], _∷_}
 use lib.Dec.{eqb}
 use Rattle.rules.specs.Bits.{bit, word}
-use Rattle.rules.specs.Machine.{store}
+use Rattle.rules.specs.Writes.{store}
 use Rattle.rules.specs.Guest.{Guest, effective}
 use Rattle.rules.specs.Endings.{refuse}
 use Rattle.rules.specs.Steps.{Steps, done, _>>=_, _>>_, stopIf}

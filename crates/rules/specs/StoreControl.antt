@@ -5,7 +5,8 @@ use mathlib.Core.Bool.{not}
 use mathlib.Core.List.{List, [], _∷_, _++_}
 use lib.Dec.{eqb}
 use Rattle.rules.specs.Guest.{Guest, assistsControl, effective}
-use Rattle.rules.specs.Machine.{_⊕_, Write, store}
+use Rattle.rules.specs.Machine.{_⊕_}
+use Rattle.rules.specs.Writes.{Write, store}
 use Rattle.rules.specs.Endings.{refuse}
 use Rattle.rules.specs.Steps.{Steps, done, _>>=_, _>>_, stopIf}
 use Rattle.rules.specs.Access.{storeTest, secondHalfword}

@@ -5,7 +5,7 @@ use Prim.Native.Nat.{ℕ}
 use mathlib.Core.Bool.{Bool, not, _&&_, _||_}
 use mathlib.Core.List.{[], _∷_}
 use lib.Bits.{bitAnd, bitOr}
-use Rattle.rules.specs.Machine.{store}
+use Rattle.rules.specs.Writes.{store}
 use Rattle.rules.specs.Guest.{Guest, assistsControl, effective}
 use Rattle.rules.specs.Endings.{refuse}
 use Rattle.rules.specs.Steps.{Steps, _>>=_, _>>_, stopIf, endingAs}

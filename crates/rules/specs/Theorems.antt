@@ -1,6 +1,7 @@
 -- What is proved of the definitions. Each file states it, in words and as a type; the proof is the file of the same
 -- name in proofs/Theorems.
 pub mod Samples
+pub mod ReferenceBits
 pub mod Answers
 pub mod Edges
 pub mod MissingFields

@@ -12,10 +12,13 @@ use Rattle.rules.specs.declared.call.Call.{Call}
 use Rattle.rules.specs.declared.answer.Answer.{Answer}
 use Rattle.rules.specs.Guest.{advance}
 use Rattle.rules.specs.Endings.{refuse}
-use Rattle.rules.specs.Machine.{Machine, Write, performAll}
+use Rattle.rules.specs.Machine.{Machine}
+use Rattle.rules.specs.Writes.{Write, performAll}
 use Rattle.rules.specs.Steps.{Steps, done, branch, _>>=_, stopIf, endingAs}
 use Rattle.rules.specs.Call.{Completion, complete}
-use Rattle.rules.specs.Run.{Outcome, ended, gave, View, view}
+use Rattle.rules.specs.Recording.{notedAll}
+use Rattle.rules.specs.Run.{Outcome, ended, gave, run, View, view}
+use Rattle.rules.proofs.Recording.{notedAll-length}
 use Rattle.rules.proofs.Bind.{following, view-bind, endedAs, run-endingAs}
 use Rattle.storage.specs.Answers.{
   Stepped,
@@ -58,10 +61,10 @@ more-zero p m =
 pub begin : {A : Type 0} → (m : Machine) (t : Steps A) → Runs m t 0 m t
 begin m t = record { so = more-zero t m; small = omega arith }
 
--- reading changes no key's place: there are as many keys as before
+-- reading takes no key away: there are as many as before
 seen-keys : {A : Type 0} (p : Steps A) (m : Machine) → length (seen p m .left .keys) ≡ length (m .keys)
 unfolding seen
-seen-keys p m = refl
+seen-keys p m = notedAll-length m (run p m .references)
 
 pub runs-keys : {A : Type 0} {m m′ : Machine} {t u : Steps A} {n : ℕ} → Runs m t n m′ u
     → length (m′ .keys) ≡ length (m .keys)
@@ -94,7 +97,11 @@ pub refuses : (r r′ : Stepped) (s ks : List ℕ) (p : Steps ℕ) (m : Machine)
 unfolding seen
 refuses r r′ s ks p m e f =
     ap (λ x. told x s ks) e ∙ told-refused r s ks ∙ ap recast f
-    ∙ ap (λ x. record { outcome = x .outcome; count = length (x .references) % 2 ^ 32; left = m })
+    ∙ ap (λ x. record {
+      outcome = x .outcome;
+      count = length (x .references) % 2 ^ 32;
+      left = notedAll m (x .references);
+    })
     (sym (run-endingAs (λ e. refuse) p m))
 
 -- ---- the steps
@@ -131,8 +138,8 @@ module _ {A : Type 0} {m m′ : Machine} {t : Steps A} {n : ℕ} where
   bound p k x h f =
       h .so
       ∙ ap (λ y. more n (counted y (y .count % 2 ^ 32))) (view-bind p k m′)
-      ∙ ap (more n) (pursued-counted (view p m′ .outcome) (view p m′ .count) m′ k)
-      ∙ more-pursued n (view p m′ .outcome) (view p m′ .count % 2 ^ 32) m′ k
+      ∙ ap (more n) (pursued-counted (view p m′ .outcome) (view p m′ .count) (view p m′ .left) k)
+      ∙ more-pursued n (view p m′ .outcome) (view p m′ .count % 2 ^ 32) (view p m′ .left) k
       ∙ ap (λ y. pursued (y .outcome) (y .count) (y .left) k) (sym f)
 
   -- p gives a value, and k goes on with it

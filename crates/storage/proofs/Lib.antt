@@ -5,3 +5,4 @@ pub mod Fetched
 pub mod Laws
 pub mod Stages
 pub mod Words
+pub mod Recorded

@@ -1,5 +1,6 @@
 -- What the code's answers say of a reading program. The code counts references in 32 bits.
 use Prim.Native.Nat.{ℕ, _+_, _%_, _^_}
+use mathlib.Core.Path.{_≡_}
 use mathlib.Core.List.{List}
 use lib.ListN.{length}
 use Rattle.rules.specs.declared.endings.Ending.{Ending}
@@ -9,8 +10,9 @@ use Rattle.rules.specs.declared.answer.Answer.{Answer}
 use Rattle.rules.specs.declared.call.Call.{Call}
 use Rattle.rules.specs.Endings.{refuse}
 use Rattle.rules.specs.Guest.{advance}
-use Rattle.rules.specs.Machine.{Machine, performAll}
-use Rattle.rules.specs.Steps.{Steps}
+use Rattle.rules.specs.Machine.{Machine}
+use Rattle.rules.specs.Writes.{performAll}
+use Rattle.rules.specs.Steps.{Steps, fetchBytes}
 use Rattle.rules.specs.Run.{Outcome, ended, gave, View, view}
 use Rattle.rules.specs.Call.{Completion}
 use Rattle.storage.specs.Items.{Item, Of, Missing}
@@ -46,6 +48,11 @@ seen p m = record { outcome = view p m .outcome; count = view p m .count % 2 ^ 3
 abbrev pub fetchedAs : Item → Ending → Stepped
 fetchedAs (Of v) e = Value v 1
 fetchedAs Missing e = Stopped e 0
+
+-- an item as it was found is what its fetch gives, with the storage and keys before it and the keys after it, whatever
+-- ending the item's absence may have
+abbrev pub Fetches : Item → (storage keys keys′ : List ℕ) (address bytes : ℕ) → Type 0
+Fetches i s ks ks′ a n = (e : Ending) → told (fetchedAs i e) s ks′ ≡ seen (fetchBytes a n e) (machine s ks)
 
 -- after n references more
 abbrev pub later : (n : ℕ) → Stepped → Stepped

@@ -1,7 +1,7 @@
 // An item of storage: the byte, halfword or word from a real address on, each byte's address modulo 2^24.
 ghost use mathlib.Core.Path.{_≡_};
 ghost use Prim.Native.Nat.{_<_, _≤_};
-ghost use Rattle.storage.specs.Items.{found, held, itemAt, bytesIn};
+ghost use Rattle.storage.specs.Items.{found, held, itemAt};
 
 pub enum Width {
     Byte,
@@ -57,7 +57,7 @@ fn word_by_bytes(storage: &[u8], at: u32) -> Item
 
 // A word that does not go round the top of storage: it is there exactly if its last byte is
 // (specs/Theorems.antt, LastByteDecides).
-fn word_by_last_byte(storage: &[u8], at: u32) -> Item
+pub(crate) fn word_by_last_byte(storage: &[u8], at: u32) -> Item
     requires { ⌜ at ≤ 16777212 ⌝ }
     ensures { λ r. ⌜ found r ≡ itemAt (now (storage .entry)) at 4 ⌝ }
 {
@@ -81,14 +81,4 @@ pub(crate) fn word_at(storage: &[u8], at: u32) -> Item
         return word_by_last_byte(storage, at);
     }
     word_by_bytes(storage, at)
-}
-
-pub(crate) fn item_at(storage: &[u8], width: Width, at: u32) -> Item
-    ensures { λ r. ⌜ found r ≡ itemAt (now (storage .entry)) at (bytesIn width) ⌝ }
-{
-    match width {
-        Width::Byte => byte_at(storage, at),
-        Width::Halfword => halfword_at(storage, at),
-        Width::Word => word_at(storage, at),
-    }
 }

@@ -1,12 +1,15 @@
 // The answer of a step of a reading program: a value, or the ending, and the count of references made for it.
 ghost use mathlib.Core.Path.{_≡_};
-ghost use Rattle.rules.specs.declared.endings.Ending.{Ending};
 ghost use Rattle.rules.specs.Steps.{fetchBytes};
 ghost use Rattle.storage.specs.Items.{bytesIn};
 ghost use Rattle.storage.specs.Answers.{later, refused, machine, told, seen, fetchedAs};
+use crate::fetches::byte_item;
+use crate::fetches::halfword_item;
+use crate::fetches::word_across;
+use crate::fetches::word_within;
 use crate::items::Item;
 use crate::items::Width;
-use crate::items::item_at;
+use crate::recording::is_across;
 use rules::Ending;
 use rules::Exception;
 
@@ -48,23 +51,30 @@ fn fetched(item: Item, missing: Ending) -> Stepped
     }
 }
 
-// An item of storage: what it gives for any ending that its absence may have.
-pub fn item(storage: &[u8], keys: &mut [u8], width: Width, at: u32) -> Item
+// Beside `word_item` this is a second caller of `word_across`: so the compiler doesn't put that, which is long and
+// seldom taken, into every caller of both.
+fn fetch_word(storage: &[u8], keys: &mut [u8], at: u32, missing: Ending) -> Stepped
     ensures { λ r. ⌜
-        ((e : Ending) →
-        told (fetchedAs r e) (now (storage .entry)) (now (keys .exit))
-        ≡ seen (fetchBytes at (bytesIn width) e) (machine (now (storage .entry)) (now (keys .entry))))
+        told r (now (storage .entry)) (now (keys .exit))
+        ≡ seen (fetchBytes at 4 missing) (machine (now (storage .entry)) (now (keys .entry)))
         ⌝ }
 {
-    item_at(storage, width, at)
+    if is_across(at) {
+        return fetched(word_across(storage, keys, at), missing);
+    }
+    fetched(word_within(storage, keys, at), missing)
 }
 
-// The same, or this ending if a byte of it is not there.
+// An item of storage, or this ending if a byte of it is not there.
 pub fn fetch(storage: &[u8], keys: &mut [u8], width: Width, at: u32, missing: Ending) -> Stepped
     ensures { λ r. ⌜
         told r (now (storage .entry)) (now (keys .exit))
         ≡ seen (fetchBytes at (bytesIn width) missing) (machine (now (storage .entry)) (now (keys .entry)))
         ⌝ }
 {
-    fetched(item(storage, keys, width, at), missing)
+    match width {
+        Width::Byte => fetched(byte_item(storage, keys, at), missing),
+        Width::Halfword => fetched(halfword_item(storage, keys, at), missing),
+        Width::Word => fetch_word(storage, keys, at, missing),
+    }
 }

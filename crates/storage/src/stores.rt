@@ -1,11 +1,17 @@
-// Stores, and the setting of a key. A byte that is not in storage, or a key that is not there, changes nothing.
+// Stores, which are recorded, and the setting of a key, which isn't. A byte that is not in storage, or a key that is
+// not there, changes nothing.
 ghost use Prim.Native.Nat.{ℕ, _%_};
 ghost use mathlib.Core.Path.{_≡_};
 ghost use mathlib.Core.List.{List};
 ghost use lib.ListN.{length, set};
-ghost use Rattle.rules.specs.Machine.{addresses, stored, perform, store, setKey};
+ghost use Rattle.rules.specs.Machine.{addresses, stored};
+ghost use Rattle.rules.specs.Writes.{perform, store, setKey};
 ghost use Rattle.storage.specs.Answers.{machine};
 ghost use Rattle.storage.specs.Items.{wordBytes};
+use crate::recording::Access;
+use crate::recording::is_across;
+use crate::recording::record_byte;
+use crate::recording::record_word;
 
 fn put_byte(storage: &mut [u8], at: u32, value: u32)
     ensures { λ _. ⌜ now (storage .exit) ≡ set (now (storage .entry)) at (value % 256) ⌝ }
@@ -34,9 +40,9 @@ pub fn store_byte(storage: &mut [u8], keys: &mut [u8], at: u32, value: u32)
         ⌝ }
 {
     put_byte(storage, at, value);
+    record_byte(keys, Access::Store, at);
 }
 
-// A word that goes round the top of storage, or past its end: byte by byte.
 fn put_bytes(storage: &mut [u8], at: u32, value: u32)
     ensures { λ _. ⌜ now (storage .exit) ≡ stored (now (storage .entry)) (addresses at 4) value ⌝ }
 {
@@ -49,7 +55,18 @@ fn put_bytes(storage: &mut [u8], at: u32, value: u32)
     put_byte(storage, fourth, value);
 }
 
-// A word: the four-byte part of storage that starts at its address is lent for it, where it is in one piece.
+// A word across a block boundary, round the top of storage or past its end: byte by byte.
+fn store_across(storage: &mut [u8], keys: &mut [u8], at: u32, value: u32)
+    ensures { λ _. ⌜
+        machine (now (storage .exit)) (now (keys .exit))
+        ≡ perform (machine (now (storage .entry)) (now (keys .entry))) (store at 4 value)
+        ⌝ }
+{
+    put_bytes(storage, at, value);
+    record_word(keys, Access::Store, at);
+}
+
+// A word: the four-byte part of storage that starts at its address is lent for it, where it is in one block.
 pub fn store_word(storage: &mut [u8], keys: &mut [u8], at: u32, value: u32)
     ensures { λ _. ⌜
         machine (now (storage .exit)) (now (keys .exit))
@@ -58,15 +75,16 @@ pub fn store_word(storage: &mut [u8], keys: &mut [u8], at: u32, value: u32)
 {
     let start = at as usize;
     let end = start + 4;
-    if 16777216 < end {
-        put_bytes(storage, at, value);
+    if is_across(at) {
+        store_across(storage, keys, at, value);
         return;
     }
     if storage.len() < end {
-        put_bytes(storage, at, value);
+        store_across(storage, keys, at, value);
         return;
     }
     put_word(&mut storage[start..end], value);
+    record_byte(keys, Access::Store, at);
 }
 
 pub fn set_key(keys: &mut [u8], block: u32, key: u8)

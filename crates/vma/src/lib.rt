@@ -2,6 +2,7 @@
 ghost use mathlib.Core.Path.{_≡_};
 ghost use lib.ListN.{length};
 ghost use Rattle.rules.specs.Endings.{numbers};
+ghost use Rattle.rules.specs.Theorems.ReferenceBits.{OnlyReferenced};
 ghost use Rattle.vma.specs.Words.{wordsOf};
 ghost use Rattle.vma.specs.Packed.{packed, numbersIn, countIn};
 ghost use Rattle.vma.specs.Called.{called};
@@ -17,7 +18,8 @@ mod guest_words;
 mod packing;
 
 // One attempt. The storage, keys and record of the caller are changed in place, and only on completion; in the record
-// the instruction address alone. Every call is answered, whatever is lent.
+// the instruction address alone. But references are recorded in the keys as they are made, and stay recorded whatever
+// the ending. Every call is answered, whatever is lent.
 #[no_mangle]
 pub extern "C" fn vma_attempt(
     storage: &mut [u8],
@@ -47,7 +49,15 @@ pub extern "C" fn vma_attempt(
         ≡ wordsOf
         (called (now (storage .entry)) (now (keys .entry)) (now (guest .entry)) first installed .answer .guest)
         ⌝ }
-    ensures untouched { λ r. ⌜ ((numbersIn r .number ≡ 0 → ⊥) → now (guest .exit) ≡ now (guest .entry)) ⌝ }
+    ensures untouched { λ r. ⌜
+        ((numbersIn r .number ≡ 0 → ⊥) →
+        (now (guest .exit) ≡ now (guest .entry)) × (now (storage .exit) ≡ now (storage .entry)))
+        ⌝ }
+    ensures referenced { λ r. ⌜
+        ((numbersIn r .number ≡ 0 → ⊥) →
+        OnlyReferenced (now (keys .entry)) (now (keys .exit))
+        (called (now (storage .entry)) (now (keys .entry)) (now (guest .entry)) first installed .references))
+        ⌝ }
     ensures storage { λ r. ⌜
         now (storage .exit)
         ≡ called (now (storage .entry)) (now (keys .entry)) (now (guest .entry)) first installed .after .storage

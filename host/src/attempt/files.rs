@@ -6,10 +6,14 @@
 //! 2. storage.new takes the place of storage: with this one step the call has happened;
 //! 3. keys.new takes the place of keys, then guest.new that of guest.
 //!
+//! Any other ending leaves storage and guest as they were, and of the keys all but reference bits that were
+//! recorded. If there are such bits, they are written in the same order, but storage.new is empty, is removed
+//! in step 2, and there is no guest.new.
+//!
 //! So, if a call was cut short: while storage.new is there it hasn't happened, and what is left of it is
 //! removed, storage.new last, for without it the others would mean something else. If only one of the others
 //! is there, the call has happened, and step 3 is finished. All the while storage is locked, and storage.new
-//! too, which becomes storage: so no other `vma attempt` on it takes a call that is being written for one
+//! too where it becomes storage: so no other `vma attempt` on it takes a call that is being written for one
 //! that was cut short.
 
 use std::fs::File;
@@ -74,7 +78,7 @@ impl Files {
         self.check_left()?;
         self.finish().map_err(|failure| self.unfinished(failure))?;
         say(&format!(
-            "an earlier call had completed, but was cut short before its files were all in place. It is now \
+            "an earlier call had happened, but was cut short before its files were all in place. It is now \
              finished, with {left}. Nothing else was done: this call was not made"
         ));
         Ok(Start::Finished)
@@ -98,6 +102,20 @@ impl Files {
             self.storage.rename_new()?;
             Ok(storage)
         });
+        self.concluded(written)
+    }
+
+    /// Write the keys anew; storage and guest stay as they are.
+    pub fn replace_keys(&self, keys: &[u8]) -> Result<(), Failure> {
+        let written = self.storage.write_new(&[]).and_then(|_| {
+            self.keys.write_new(keys)?;
+            self.storage.remove_new()
+        });
+        self.concluded(written)
+    }
+
+    /// Finish a call if it has happened, and undo it if it could not; what is written may be locked till then.
+    fn concluded<T>(&self, written: Result<T, Failure>) -> Result<(), Failure> {
         match written {
             Ok(_locked) => self.finish().map_err(|failure| self.unfinished(failure)),
             Err(failure) => Err(match self.remove_new() {
@@ -117,7 +135,7 @@ impl Files {
         Ok(())
     }
 
-    /// The new storage is in place; let keys and guest follow, unless they have.
+    /// The call has happened; let new keys and guest take their places, unless they have.
     fn finish(&self) -> Result<(), Failure> {
         self.storage.sync_renamed()?;
         for file in [&self.keys, &self.guest] {
@@ -133,8 +151,8 @@ impl Files {
     fn unfinished(&self, failure: Failure) -> Failure {
         let left = [&self.keys, &self.guest].into_iter().any(|file| file.has_new().unwrap_or(true));
         failure.and(match left {
-            true => "the call has completed; give the same command again to finish writing its files",
-            false => "the call has completed and its files are in place, but may not be on the disk yet",
+            true => "the call has happened; give the same command again to finish writing its files",
+            false => "the call has happened and its files are in place, but may not be on the disk yet",
         })
     }
 

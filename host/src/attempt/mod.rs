@@ -31,9 +31,10 @@ Makes one attempt at the instruction whose first halfword is HEX (4 hex digits),
   --expanded      the expanded assist is installed
 
 Prints the ending, the count of references, the next instruction address, and each byte, key and word of the
-record that changed, old -> new. If the attempt completes, the three files are written anew; with any other
-ending they stay as they are. The new contents go to FILE.new beside each, and then take FILE's place: if that
-is cut short, the next start says so, and either undoes it or finishes it.
+record that changed, old -> new. If the attempt completes, the three files are written anew. Any other ending
+leaves storage and record as they were, and of the keys all but reference bits that were recorded; if there
+are such bits, the keys file alone is written anew. The new contents go to FILE.new beside each, and then take
+FILE's place: if that is cut short, the next start says so, and either undoes it or finishes it.
 
 Status: 0 completed; 1 error; 2 wrong usage; 3 an earlier call was finished, and no other made; 4 any other
 ending than completion.
@@ -55,24 +56,29 @@ fn run(words: &[OsString]) -> Result<Report, Failure> {
         options.expanded,
     );
     let answer = Answer::unpack(result);
+    let recorded = after.keys != before.keys;
     if answer.completed() {
         files.replace(&after)?;
+    } else if recorded {
+        files.replace_keys(&after.keys)?;
     }
-    Ok(report(answer, &before, &after))
+    let files_written = answer.completed() || recorded;
+    Ok(Report { files_written, ..report(answer, &before, &after) })
 }
 
 fn report(answer: Answer, before: &State, after: &State) -> Report {
     let next = record::instruction_address(&after.record);
+    let mut changes = changes::place_lines(before, after, changes::changed);
+    changes.extend(changes::record_lines(&before.record, &after.record, changes::changed));
+    if changes.is_empty() {
+        changes.push("nothing changed".into());
+    }
     let mut lines = vec![
         format!("ending {}", words::ending(answer)),
         format!("references {}", answer.count),
         format!("next instruction address {next:06X}"),
     ];
-    lines.extend(changes::place_lines(before, after, changes::changed));
-    lines.extend(changes::record_lines(&before.record, &after.record, changes::changed));
-    if !answer.completed() {
-        lines.push("nothing changed".into());
-    }
+    lines.extend(changes);
     let status = if answer.completed() { command::COMPLETED } else { command::OTHER_ENDING };
-    Report { text: lines.join("\n") + "\n", status, files_written: answer.completed() }
+    Report::new(lines.join("\n") + "\n", status)
 }

@@ -181,7 +181,42 @@ mod tests {
         assert!(
             found(stray).is_some_and(|(call, text)| call == expected && text.contains("\nstorage 0007FF: "))
         );
-        assert!(found(key)
-            .is_some_and(|(_, text)| text.ends_with("\nkeys 0001FF: library 01, second program 00\n")));
+        let (_, text) = found(key).expect("a difference");
+        let last = text.lines().last().expect("a line");
+        let (library, second) = last
+            .strip_prefix("keys 0001FF: library ")
+            .and_then(|keys| keys.split_once(", second program "))
+            .expect("the key");
+        let number = |digits| u8::from_str_radix(digits, 16).expect("a key");
+        assert_eq!(number(library) ^ number(second), 1);
+    }
+
+    #[test]
+    fn what_is_recorded_in_the_keys() {
+        /// Whatever the ending, no change bit that wasn't there.
+        fn no_change(request: &Request, storage: &mut [u8], keys: &mut [u8]) -> Outcome {
+            let before = keys.to_vec();
+            let outcome = counted(request, storage, keys);
+            keys.iter_mut().zip(before).for_each(|(key, old)| *key &= !0x02 | old);
+            outcome
+        }
+        /// What was recorded before any ending but completion doesn't stay.
+        fn forgets(request: &Request, storage: &mut [u8], keys: &mut [u8]) -> Outcome {
+            let before = keys.to_vec();
+            let outcome = counted(request, storage, keys);
+            if !outcome.answer.completed() {
+                keys.copy_from_slice(&before);
+            }
+            outcome
+        }
+        for side in [no_change as Side, forgets] {
+            let (_, text) = found(side).expect("a difference");
+            let differences = text.split("\nsecond program: ").nth(1).expect("both answers").lines().skip(1);
+            let differences: Vec<&str> = differences.collect();
+            assert!(
+                !differences.is_empty() && differences.iter().all(|line| line.starts_with("keys ")),
+                "{text}"
+            );
+        }
     }
 }

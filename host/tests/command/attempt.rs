@@ -12,19 +12,22 @@ fn moved_on(before: &[u32; 21], next: u32) -> Vec<u32> {
 #[test]
 fn set_system_mask() {
     let case = ssm(0x07);
-    let (mut storage, keys) = (case.read("storage"), case.read("keys"));
+    let mut storage = case.read("storage");
     let run = case.run();
     // MICCREG, virtual register 0; key and fetch of the second halfword, and of the operand; MICVPSW, virtual
-    // PSW; the store.
+    // PSW; the store. The fields and the store are in block 0, the halfword in 2, the operand in 4.
     let expected = "ending 0 completed\n\
                     references 9\n\
                     next instruction address 001004\n\
                     storage 000600: 04 -> 07\n\
+                    key of block 0 (000000-0007FF): 00 -> 06\n\
+                    key of block 2 (001000-0017FF): 00 -> 04\n\
+                    key of block 4 (002000-0027FF): 00 -> 04\n\
                     record PSW bits 32-63: 00001000 -> 00001004\n";
     assert_eq!((run.status, run.output.as_str(), run.messages.as_str()), (Some(0), expected, ""));
     storage[0x600] = 0x07;
     assert_eq!(case.read("storage"), storage);
-    assert_eq!(case.read("keys"), keys);
+    assert_eq!(case.read("keys"), [6, 0, 4, 0, 4, 0, 0, 0]);
     assert_eq!(case.record(), moved_on(&record(), 0x1004));
     assert_eq!(case.names(), ["guest", "keys", "storage"]);
 }
@@ -36,17 +39,22 @@ fn store_control() {
     let mut storage = storage(0x4000, &places);
     let case = Case::new("B6E1", &storage, &record());
     let run = case.run();
-    // MICCREG; key and fetch of the second halfword; four registers, four keys, four stores.
+    // MICCREG; key and fetch of the second halfword; four registers, four keys, four stores. MICCREG and the
+    // registers are in block 0, the halfword in 2, the stores in 4.
     let expected = "ending 0 completed\n\
                     references 15\n\
                     next instruction address 001004\n\
                     storage 002000: 00 00 00 00 00 00 00 00 -> B8 B9 BA BB BC BD BE BF\n\
                     storage 002008: 00 00 00 00 00 00 00 00 -> 80 81 82 83 84 85 86 87\n\
+                    key of block 0 (000000-0007FF): 00 -> 04\n\
+                    key of block 2 (001000-0017FF): 00 -> 04\n\
+                    key of block 4 (002000-0027FF): 00 -> 06\n\
                     record PSW bits 32-63: 00001000 -> 00001004\n";
     assert_eq!((run.status, run.output.as_str()), (Some(0), expected));
     storage[0x2000..0x2008].copy_from_slice(&registers[56..]);
     storage[0x2008..0x2010].copy_from_slice(&registers[..8]);
     assert_eq!(case.read("storage"), storage);
+    assert_eq!(case.read("keys"), [4, 0, 4, 0, 6, 0, 0, 0]);
     assert_eq!(case.record(), moved_on(&record(), 0x1004));
 }
 
@@ -56,16 +64,21 @@ fn store_then_and_system_mask() {
     let mut storage = storage(0x4000, &places);
     let case = Case::new("acfc", &storage, &record());
     let run = case.run();
-    // MICVPSW, virtual PSW; key and fetch of the second halfword; key of the operand; two stores.
+    // MICVPSW, virtual PSW; key and fetch of the second halfword; key of the operand; two stores. The stores are
+    // in blocks 4 and 0.
     let expected = "ending 0 completed\n\
                     references 7\n\
                     next instruction address 001004\n\
                     storage 000600: 07 -> 04\n\
                     storage 002000: 00 -> 07\n\
+                    key of block 0 (000000-0007FF): 00 -> 06\n\
+                    key of block 2 (001000-0017FF): 00 -> 04\n\
+                    key of block 4 (002000-0027FF): 00 -> 06\n\
                     record PSW bits 32-63: 00001000 -> 00001004\n";
     assert_eq!((run.status, run.output.as_str()), (Some(0), expected));
     (storage[0x600], storage[0x2000]) = (0x04, 0x07);
     assert_eq!(case.read("storage"), storage);
+    assert_eq!(case.read("keys"), [6, 0, 4, 0, 6, 0, 0, 0]);
 }
 
 #[test]
@@ -74,7 +87,13 @@ fn store_then_or_system_mask_while_an_interruption_is_pending() {
     let case = Case::new("AD03", &storage(0x4000, &places), &record());
     let run = case.run();
     assert_eq!(run.status, Some(0));
-    assert!(run.output.contains("\nstorage 002000: 00 -> 07\nrecord"), "{}", run.output);
+    // The byte stored in block 0 is the one that was there, and its store is recorded all the same.
+    let expected = "\nstorage 002000: 00 -> 07\n\
+                    key of block 0 (000000-0007FF): 00 -> 06\n\
+                    key of block 2 (001000-0017FF): 00 -> 04\n\
+                    key of block 4 (002000-0027FF): 00 -> 06\n\
+                    record";
+    assert!(run.output.contains(expected), "{}", run.output);
 }
 
 #[test]
@@ -84,16 +103,19 @@ fn set_storage_key() {
     let before: [u32; 21] = case.record().try_into().expect("21 words");
     let run = case.run();
     // MICRSEG, segment entry, swap-table address, swap word, page entry; key consulted and set; the store.
+    // MICRSEG is in block 0, all else that is fetched or stored in 1; nothing in block 2, whose key is set.
     let expected = "ending 0 completed\n\
                     references 8\n\
                     next instruction address 001002\n\
                     storage 000D18: 00 00 00 -> 08 00 3E\n\
+                    key of block 0 (000000-0007FF): 00 -> 04\n\
+                    key of block 1 (000800-000FFF): 00 -> 06\n\
                     key of block 2 (001000-0017FF): 04 -> 38\n\
                     record PSW bits 32-63: 00001000 -> 00001002\n";
     assert_eq!((run.status, run.output.as_str()), (Some(0), expected));
     storage[0xD18..0xD1C].copy_from_slice(&[0x08, 0x00, 0x3E, 0x00]);
     assert_eq!(case.read("storage"), storage);
-    assert_eq!(case.read("keys"), [0, 0, 0x38, 0, 0, 0, 0, 0]);
+    assert_eq!(case.read("keys"), [4, 6, 0x38, 0, 0, 0, 0, 0]);
     assert_eq!(case.record(), moved_on(&before, 0x1002));
 }
 
@@ -111,6 +133,9 @@ fn sixteen_mebibytes_with_an_operand_that_goes_round() {
                     next instruction address 001004\n\
                     storage 000000: 00 00 00 00 -> 9C 9D 9E 9F\n\
                     storage FFFFFC: 00 00 00 00 -> 98 99 9A 9B\n\
+                    key of block 0 (000000-0007FF): 00 -> 06\n\
+                    key of block 2 (001000-0017FF): 00 -> 04\n\
+                    key of block 8191 (FFF800-FFFFFF): 00 -> 06\n\
                     record PSW bits 32-63: 00001000 -> 00001004\n";
     assert_eq!((run.status, run.output.as_str()), (Some(0), expected));
     storage[0xFF_FFFC..].copy_from_slice(&registers[24..28]);
@@ -132,7 +157,8 @@ fn the_guest_file_is_written_in_the_form_in_which_it_is_read() {
     assert_eq!(String::from_utf8(case.read("guest")).as_deref(), Ok(expected));
     let run = case.run();
     assert_eq!(run.status, Some(0));
-    // The key found now is the one that was set; its reference and change bits are zero.
+    // The key found now is the one that was set; its reference and change bits are zero. In the other keys all
+    // that is recorded was so before.
     let expected = "ending 0 completed\n\
                     references 8\n\
                     next instruction address 001004\n\

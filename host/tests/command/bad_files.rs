@@ -4,7 +4,7 @@
 use std::fs;
 use std::os::unix::fs::{symlink, PermissionsExt};
 
-use crate::case::{record, ssm, text, Case};
+use crate::case::{record, refused_in_16_mebibytes, ssm, text, Case};
 
 /// The message of a run that ends with status 1 and leaves every file as it was.
 fn message(case: &Case) -> String {
@@ -135,20 +135,24 @@ fn records_that_are_none() {
     }
 }
 
-#[test]
-fn new_contents_that_cannot_be_written() {
-    let case = ssm(0x07);
+/// The limit of so many blocks of 512 or 1,024 bytes on a file stops the writing of this one.
+fn not_written(case: &Case, blocks: u32, name: &str) {
     let before = case.snapshot();
-    // Files of at most a few KiB: storage.new with 16 KiB can't be written.
-    let limited = "trap '' XFSZ; ulimit -f 8; exec \"$0\" \"$@\"";
+    let limited = format!("trap '' XFSZ; ulimit -f {blocks}; exec \"$0\" \"$@\"");
     let run = crate::case::run(
-        std::process::Command::new("sh").args(["-c", limited, crate::case::PROGRAM]).args(case.words()),
+        std::process::Command::new("sh").args(["-c", &limited, crate::case::PROGRAM]).args(case.words()),
     );
     assert_eq!((run.status, run.output.as_str()), (Some(1), ""));
     let expected = format!(
         "vma: {}: can't be written: File too large (os error 27); nothing was changed\n",
-        case.path("storage.new").display()
+        case.path(name).display()
     );
     assert_eq!(run.messages, expected);
-    assert_eq!(case.snapshot(), before);
+    assert!(case.snapshot() == before);
+}
+
+#[test]
+fn new_contents_that_cannot_be_written() {
+    not_written(&ssm(0x07), 8, "storage.new"); // of 16 KiB
+    not_written(&refused_in_16_mebibytes(), 4, "keys.new"); // of 8 KiB
 }

@@ -36,6 +36,9 @@ pub struct Case {
     pub expanded: bool,
 }
 
+/// Every file of a folder: name, contents, time of modification, permission bits.
+pub type Snapshot = Vec<(String, Vec<u8>, std::time::SystemTime, fs::Permissions)>;
+
 static CASES: AtomicU32 = AtomicU32::new(0);
 
 impl Case {
@@ -95,8 +98,7 @@ impl Case {
         run(&mut self.command())
     }
 
-    /// Every file of the folder: name, contents, time of modification, permission bits.
-    pub fn snapshot(&self) -> Vec<(String, Vec<u8>, std::time::SystemTime, fs::Permissions)> {
+    pub fn snapshot(&self) -> Snapshot {
         let mut files = Vec::new();
         for entry in fs::read_dir(&self.folder).expect("a folder") {
             let entry = entry.expect("an entry");
@@ -158,6 +160,13 @@ pub fn ssm(new: u8) -> Case {
     let places: [(usize, &[u8]); 6] =
         [MICCREG, MICVPSW, REGISTER_0, SECOND_HALFWORD, (0x600, &[0x04, 0x08]), (0x2000, &[new])];
     Case::new("8000", &storage(0x4000, &places), &record())
+}
+
+/// SSM in 16 MiB, refused because virtual control register 0 has bit 1: two fetches from block 0. There are 8,192
+/// keys.
+pub fn refused_in_16_mebibytes() -> Case {
+    let places: [(usize, &[u8]); 2] = [MICCREG, (0x500, &[0x40, 0, 0, 0])];
+    Case::new("8000", &storage(0x100_0000, &places), &record())
 }
 
 /// SSK 3,4 of address 023000 in frame 001000, R1 low byte 3F; key 04 in block 2.

@@ -5,7 +5,7 @@ use std::os::unix::fs::{symlink, PermissionsExt};
 use std::path::Path;
 use std::process::{Command, Stdio};
 
-use crate::case::{run, ssk, ssm, PROGRAM};
+use crate::case::{run, ssk, ssm, Case, PROGRAM};
 
 #[test]
 fn permission_bits_are_kept() {
@@ -38,18 +38,27 @@ fn symbolic_links_are_followed() {
     assert_eq!(fs::read_dir(elsewhere).expect("a folder").count(), 3);
 }
 
-#[test]
-fn a_result_that_cannot_be_printed() {
+/// The message of a call whose result goes to the device that is always full.
+fn message_with_a_full_output(case: &Case) -> String {
     let full = File::options().write(true).open("/dev/full").expect("the device that is always full");
-    let case = ssm(0x07);
     let child = case.command().stdout(full).stderr(Stdio::piped()).spawn().expect("the program starts");
     let output = child.wait_with_output().expect("it ends");
     assert_eq!(output.status.code(), Some(1));
-    let expected =
-        "vma: the result can't be printed: No space left on device (os error 28); the call is made and the \
-                    files are written\n";
-    assert_eq!(String::from_utf8(output.stderr).as_deref(), Ok(expected));
+    String::from_utf8(output.stderr).expect("text")
+}
+
+#[test]
+fn a_result_that_cannot_be_printed() {
+    let expected = "vma: the result can't be printed: No space left on device (os error 28)";
+    let written = format!("{expected}; the call is made and the files are written\n");
+    let case = ssm(0x07);
+    assert_eq!(message_with_a_full_output(&case), written);
     assert_eq!(case.record()[1], 0x1004);
+    // Refused: the first time there are reference bits to be written, the second time nothing.
+    let case = ssm(0x84);
+    assert_eq!(message_with_a_full_output(&case), written);
+    assert_eq!(case.read("keys"), [4, 0, 4, 0, 4, 0, 0, 0]);
+    assert_eq!(message_with_a_full_output(&case), format!("{expected}\n"));
 }
 
 #[test]

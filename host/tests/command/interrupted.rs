@@ -3,7 +3,7 @@
 use std::os::unix::process::ExitStatusExt;
 use std::process::Command;
 
-use crate::case::{ssk, ssm, Case, PROGRAM};
+use crate::case::{refused_in_16_mebibytes, ssk, ssm, Case, PROGRAM};
 
 /// The contents of the three files.
 fn contents(case: &Case) -> [Vec<u8>; 3] {
@@ -32,11 +32,22 @@ fn paths(case: &Case, names: &[&str]) -> String {
     paths.join(", ")
 }
 
+/// What is said of an earlier call that is finished with these files.
+fn finished(case: &Case, names: &[&str]) -> String {
+    format!(
+        "vma: an earlier call had happened, but was cut short before its files were all in place. It is now \
+         finished, with {}. Nothing else was done: this call was not made\n",
+        paths(case, names)
+    )
+}
+
 #[test]
 fn before_the_call_happened() {
     let (_, [storage, keys, guest]) = completed();
-    let cases: [&[(&str, &[u8])]; 4] = [
+    let cases: [&[(&str, &[u8])]; 6] = [
         &[("storage.new", b"")],
+        &[("storage.new", b""), ("keys.new", b"not whole")],
+        &[("storage.new", b""), ("keys.new", &keys)],
         &[("storage.new", &storage[..100])],
         &[("storage.new", &storage), ("keys.new", b"not whole")],
         &[("storage.new", &storage), ("keys.new", &keys), ("guest.new", &guest)],
@@ -67,12 +78,7 @@ fn after_the_call_happened() {
         let case = with_left(left);
         let names: Vec<&str> = left.iter().map(|file| file.0).filter(|name| name.ends_with(".new")).collect();
         let run = case.run();
-        let expected = format!(
-            "vma: an earlier call had completed, but was cut short before its files were all in place. \
-             It is now finished, with {}. Nothing else was done: this call was not made\n",
-            paths(&case, &names)
-        );
-        assert_eq!((run.status, run.output.as_str(), run.messages), (Some(3), "", expected));
+        assert_eq!((run.status, run.output.as_str(), run.messages), (Some(3), "", finished(&case, &names)));
         assert_eq!(contents(&case), after, "the earlier call alone is made");
         assert_ne!(before, after);
         assert_eq!(case.names(), ["guest", "keys", "storage"]);
@@ -81,6 +87,23 @@ fn after_the_call_happened() {
             "and then the next"
         );
     }
+}
+
+#[test]
+fn after_a_call_happened_that_did_not_complete() {
+    let case = ssm(0x84);
+    let [storage, _, guest] = contents(&case);
+    // Of such a call there is no more to write than the reference bits of blocks 0, 2 and 4.
+    let keys = vec![4, 0, 4, 0, 4, 0, 0, 0];
+    case.write("keys.new", &keys);
+    let run = case.run();
+    let expected = finished(&case, &["keys.new"]);
+    assert_eq!((run.status, run.output.as_str(), run.messages), (Some(3), "", expected));
+    assert_eq!(contents(&case), [storage, keys, guest]);
+    assert_eq!(case.names(), ["guest", "keys", "storage"]);
+    let run = case.run();
+    assert_eq!(run.status, Some(4), "and then the next");
+    assert!(run.output.ends_with("\nnothing changed\n"), "{}", run.output);
 }
 
 /// What is left is refused: this file, for this reason.
@@ -118,6 +141,23 @@ fn a_crash_while_storage_is_written() {
     assert_eq!(run.status, Some(0));
     assert!(run.messages.starts_with("vma: an earlier call was cut short before it happened"));
     assert_eq!(case.read("storage")[0x600], 0x07);
+    assert_eq!(case.names(), ["guest", "keys", "storage"]);
+}
+
+#[test]
+fn a_crash_while_keys_are_written() {
+    let case = refused_in_16_mebibytes();
+    let before = contents(&case);
+    let limited = "ulimit -c 0; ulimit -f 4; exec \"$0\" \"$@\"";
+    let output =
+        Command::new("sh").args(["-c", limited, PROGRAM]).args(case.words()).output().expect("it starts");
+    assert_eq!(output.status.signal(), Some(25), "killed for too large a file");
+    assert!(contents(&case) == before);
+    assert_eq!(case.names(), ["guest", "keys", "keys.new", "storage", "storage.new"]);
+    let run = case.run();
+    assert_eq!(run.status, Some(4));
+    assert!(run.messages.starts_with("vma: an earlier call was cut short before it happened"));
+    assert_eq!(case.read("keys")[..2], [4, 0]);
     assert_eq!(case.names(), ["guest", "keys", "storage"]);
 }
 

@@ -1,7 +1,7 @@
 //! Edges in 16 MiB, and in one block more.
 
 use super::Edge;
-use crate::setup::Setup;
+use crate::setup::{Setup, MICBLOK, VIRTUAL_PSW};
 
 pub fn edges() -> Vec<Edge> {
     // The words at FFFFF8 and FFFFFC are in block 1FFF (hex), the third in block 0, whose key is not PSW key 1.
@@ -23,5 +23,14 @@ pub fn edges() -> Vec<Edge> {
             "operand FFFFF8, three registers, 16 MiB: third word at 000000 protected, nothing stored",
             &protected,
         ),
+        Edge::new(false, "register 15 round the top: both blocks", &register_round_the_top()),
     ]
+}
+
+/// MICBLOK at 1400, with the instruction in block 2. ECBLOK at FFFFC2: register 15 is at FFFFFE to 000001, and no
+/// other item is in block 0.
+fn register_round_the_top() -> Setup {
+    let setup = Setup::stctl_in(15, 15, 0x100_0000).word(MICBLOK + 4, 0).word(MICBLOK + 8, 0);
+    let setup = setup.control_register_6(0x8000_1400).word(0x1404, 0xFF_FFC2).word(0x1408, VIRTUAL_PSW);
+    setup.word(0xFF_FFFE, 0xAFBF_CFDF)
 }

@@ -1,7 +1,8 @@
-//! Every edge of document 01, section "Edges to show", as a concrete call.
+//! Every edge of document 01, section "Edges to show", and those of recording (document 02, R-13), as a concrete call.
 
 mod large;
 mod mask_edges;
+mod recording_edges;
 mod storage_key_edges;
 mod store_control_edges;
 mod wrong_turns;
@@ -77,6 +78,7 @@ pub fn small() -> Vec<Edge> {
     let mut edges = store_control_edges::edges();
     edges.extend(mask_edges::edges());
     edges.extend(storage_key_edges::edges());
+    edges.extend(recording_edges::edges());
     edges.extend(wrong_turns::edges());
     edges
 }

@@ -52,7 +52,10 @@ fn put_control_blocks(draft: &mut Draft, micblok: u32, instruction: Instruction,
         }
     }
     let alignment = draft.block_alignment();
-    let virtual_psw = draft.allocate(2, alignment, 0);
+    let virtual_psw = match instruction {
+        Instruction::StoreControl => draft.allocate(2, alignment, 0),
+        _ => draft.allocate_stored(2, alignment),
+    };
     let pending_bit = if pending { 0x8000_0000 } else { 0 };
     let high = draft.random.word() & 0x7F00_0000;
     draft.image.put_word(add(micblok, 8), pending_bit | high | virtual_psw);
@@ -93,6 +96,8 @@ fn byte_operand(
     let store = instruction != Instruction::SetSystemMask;
     let real = if store && draft.random.percent(15) {
         add(virtual_psw, draft.random.below(2))
+    } else if store {
+        draft.allocate_stored(1, 1)
     } else {
         draft.allocate(1, 1, 0)
     };
@@ -128,7 +133,7 @@ fn store_control_operand(draft: &mut Draft, mapping: &mut Option<Mapping>) -> u3
     let words = 1 + (u32::from(r3) + 16 - u32::from(r1)) % 16;
     let start = match mapping {
         Some(mapping) => mapped_words(draft, mapping, words),
-        None => draft.allocate(4 * words, 4, 0),
+        None => draft.allocate_stored(4 * words, 4),
     };
     for word in 0..words {
         let logical = add(start, 4 * word);
@@ -163,7 +168,7 @@ fn mapped_words(draft: &mut Draft, mapping: &mut Mapping, words: u32) -> u32 {
                 let frame = draft.random.below(draft.size().div_ceil(page_size));
                 trial.add_page(page, frame);
             }
-            draft.contains(real_of(&trial, logical), 4)
+            draft.contains_stored(real_of(&trial, logical), 4)
         });
         if fits {
             *mapping = trial;

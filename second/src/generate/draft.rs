@@ -1,7 +1,9 @@
 //! A call being drafted: places in storage and what they hold.
 
+use std::collections::BTreeSet;
+
 use super::random::Random;
-use crate::address::{add, bytes_of_item, subtract, ADDRESS_MASK};
+use crate::address::{add, bytes_of_item, subtract, ADDRESS_MASK, KEY_BLOCK};
 use crate::call::{Call, Request, StorageImage};
 use crate::guest::Guest;
 
@@ -28,6 +30,15 @@ pub struct Place {
     pub address: u32,
 }
 
+/// Blocks by number in which items may be placed; empty for all blocks.
+#[derive(Clone, Debug, Default)]
+pub struct Room {
+    /// For items that are only read.
+    pub read: Vec<bool>,
+    /// For items that are stored, and for the page whose key is set.
+    pub stored: Vec<bool>,
+}
+
 #[derive(Clone, Debug)]
 pub struct Draft {
     pub random: Random,
@@ -39,17 +50,21 @@ pub struct Draft {
     pub places: Vec<Place>,
     /// Damage makes storage no larger than this.
     pub largest: usize,
-    /// The blocks in which items may be placed, by number; empty for all.
-    pub part: Vec<bool>,
+    pub room: Room,
     /// Start and length of what is taken.
     used: Vec<(u32, u32)>,
+    /// Blocks from `FIRST_KEYS` on that have got a random key.
+    keyed: BTreeSet<u32>,
 }
+
+/// The first keys are random from the start, a later one from when an item is in its block.
+const FIRST_KEYS: u32 = 32;
 
 impl Draft {
     /// Storage of some size with random keys, random record; nothing is set up yet.
     pub fn new(mut random: Random, size: usize, largest: usize) -> Draft {
         let mut image = StorageImage::new(size);
-        for number in 0..(size as u32 / 2048).min(32) {
+        for number in 0..(size as u32 / KEY_BLOCK).min(FIRST_KEYS) {
             image.put_key(number, random.byte());
         }
         Draft {
@@ -60,8 +75,9 @@ impl Draft {
             expanded: false,
             places: Vec::new(),
             largest,
-            part: Vec::new(),
+            room: Room::default(),
             used: Vec::new(),
+            keyed: BTreeSet::new(),
         }
     }
 
@@ -83,8 +99,20 @@ impl Draft {
         Call { request: self.request(), image: self.image }
     }
 
+    /// An item; its block, or both of a word across a boundary, has a random key from now on.
     pub fn note(&mut self, role: Role, address: u32) {
         self.places.push(Place { role, address });
+        self.draw_key(address);
+        self.draw_key(add(address, 3));
+    }
+
+    /// A random key for the block of this byte, if it has got none yet.
+    pub fn draw_key(&mut self, byte: u32) {
+        let number = byte / KEY_BLOCK;
+        if byte < self.size() && number >= FIRST_KEYS && self.keyed.insert(number) {
+            let key = self.random.byte();
+            self.image.put_key(number, key);
+        }
     }
 
     pub fn find(&mut self, roles: &[Role]) -> Option<Place> {
@@ -97,29 +125,57 @@ impl Draft {
         }
     }
 
-    /// Is every byte of the item in storage, and in the part that the draft keeps to?
+    /// Is every byte of the item in storage, where items may be that are only read?
     pub fn contains(&self, address: u32, length: u32) -> bool {
-        let in_part = |byte: u32| self.part.is_empty() || self.part[(byte / 2048) as usize];
-        bytes_of_item(address, length).all(|byte| byte < self.size() && in_part(byte))
+        self.in_blocks(&self.room.read, address, length)
     }
 
-    /// In storage, and no byte is taken.
+    /// Is every byte of the item in storage, where items may be that are stored?
+    pub fn contains_stored(&self, address: u32, length: u32) -> bool {
+        self.in_blocks(&self.room.stored, address, length)
+    }
+
+    fn in_blocks(&self, blocks: &[bool], address: u32, length: u32) -> bool {
+        let in_room = |byte: u32| blocks.is_empty() || blocks[(byte / KEY_BLOCK) as usize];
+        bytes_of_item(address, length).all(|byte| byte < self.size() && in_room(byte))
+    }
+
+    /// In storage, for an item that is only read, and no byte is taken.
     pub fn free(&self, address: u32, length: u32) -> bool {
+        self.contains(address, length) && !self.taken(address, length)
+    }
+
+    fn taken(&self, address: u32, length: u32) -> bool {
         let taken = |byte: u32| self.used.iter().any(|&(start, taken)| subtract(byte, start) < taken);
-        self.contains(address, length) && !bytes_of_item(address, length).any(taken)
+        bytes_of_item(address, length).any(taken)
     }
 
     pub fn take(&mut self, address: u32, length: u32) {
         self.used.push((address, length));
     }
 
-    /// A free place whose address leaves `residue` when divided by `alignment`; taken if none is free after
-    /// some trials. It may go round the top of 16 MiB.
+    /// A free place, for an item that is only read, whose address leaves `residue` when divided by `alignment`;
+    /// taken if none is free after some trials. It may go round the top of 16 MiB.
     pub fn allocate(&mut self, length: u32, alignment: u32, residue: u32) -> u32 {
+        self.allocate_where(Draft::contains, length, alignment, residue)
+    }
+
+    /// The same for an item that is stored.
+    pub fn allocate_stored(&mut self, length: u32, alignment: u32) -> u32 {
+        self.allocate_where(Draft::contains_stored, length, alignment, 0)
+    }
+
+    fn allocate_where(
+        &mut self,
+        contains: fn(&Draft, u32, u32) -> bool,
+        length: u32,
+        alignment: u32,
+        residue: u32,
+    ) -> u32 {
         let mut address = 0;
         for _ in 0..60 {
             address = self.candidate(length, alignment, residue);
-            if self.free(address, length) {
+            if contains(self, address, length) && !self.taken(address, length) {
                 break;
             }
         }
@@ -127,20 +183,28 @@ impl Draft {
         address
     }
 
-    /// Near the top, near a block boundary, or anywhere.
+    /// Near the top, near a block boundary or across one, or anywhere.
     pub fn candidate(&mut self, length: u32, alignment: u32, residue: u32) -> u32 {
         let size = self.size();
         let round = size > ADDRESS_MASK && self.random.percent(if alignment > 4 { 10 } else { 50 });
+        let across = alignment < 4 && length > 1 && size > KEY_BLOCK && self.random.percent(25);
         let start = match self.random.below(8) {
             _ if round => size - 1 - self.random.below(length),
+            _ if across => self.boundary() - 1 - self.random.below(length - 1),
             0 => size.wrapping_sub(length),
             1 => size.wrapping_sub(self.random.below(length + 8)),
-            2 => (self.random.below(size / 2048 + 1) * 2048).wrapping_sub(self.random.below(length + 1)),
+            2 => (self.random.below(size / KEY_BLOCK + 1) * KEY_BLOCK)
+                .wrapping_sub(self.random.below(length + 1)),
             3 => self.random.below(64),
             _ => self.random.below(size),
         };
         let start = start & ADDRESS_MASK;
         add(start - start % alignment, residue)
+    }
+
+    /// A block boundary within storage of two blocks or more.
+    fn boundary(&mut self) -> u32 {
+        KEY_BLOCK * (1 + self.random.below(self.size() / KEY_BLOCK - 1))
     }
 
     /// An alignment of the manual's control blocks, or any.

@@ -1,6 +1,7 @@
-//! Pairs of lists, each of which keeps to its own part of one storage.
+//! Pairs of lists, each of which keeps to its own part of one storage: whole blocks with their keys. Both may read
+//! blocks that are in neither part.
 
-use super::draft::Draft;
+use super::draft::{Draft, Room};
 use super::random::Random;
 use super::twin::twin;
 use super::{build, damage_but_sizes};
@@ -30,7 +31,7 @@ fn fit(pair: &Pair) -> bool {
 
 fn draft_pair(random: Random, lengths: [usize; 2], size: usize) -> Pair {
     let mut draft = Draft::new(random, size, size);
-    let parts = draw_parts(&mut draft);
+    let blocks = Blocks::draw(&mut draft);
     let psw_keys = [0, 1].map(|_| draft.random.pick(&[0, 0, 5, 9]));
     let mut lists = [Vec::new(), Vec::new()];
     // Calls are drafted for either list in turn, so that the two lie among each other.
@@ -39,12 +40,13 @@ fn draft_pair(random: Random, lengths: [usize; 2], size: usize) -> Pair {
         if lists[list].len() == lengths[list] {
             continue;
         }
-        draft.part.clone_from(&parts[list]);
+        let with_twin = blocks.neither.contains(&true) && draft.random.percent(40);
+        draft.room = if with_twin { blocks.room_for_twins(list) } else { blocks.room(list) };
         let request = next_request(&mut draft, &lists[list], psw_keys[list]);
         lists[list].push(request);
         let other = 1 - list;
-        if lists[other].len() < lengths[other] && draft.random.percent(30) {
-            draft.part.clone_from(&parts[other]);
+        if with_twin && lists[other].len() < lengths[other] {
+            draft.room = blocks.room(other);
             lists[other].extend(twin(&mut draft));
         }
     }
@@ -52,19 +54,40 @@ fn draft_pair(random: Random, lengths: [usize; 2], size: usize) -> Pair {
     Pair { image: draft.image, lists, order }
 }
 
-/// Mostly each block belongs to one list; else both may use every block and keep apart byte by byte.
-fn draw_parts(draft: &mut Draft) -> [Vec<bool>; 2] {
-    let blocks = draft.image.key_count;
-    if draft.random.percent(25) {
-        return [Vec::new(), Vec::new()];
+/// Which blocks either list may store in, and which neither.
+struct Blocks {
+    own: [Vec<bool>; 2],
+    neither: Vec<bool>,
+}
+
+impl Blocks {
+    /// In some pairs each block belongs to a list, in most some belong to neither. Of the first four each list has
+    /// one at least.
+    fn draw(draft: &mut Draft) -> Blocks {
+        let count = draft.image.key_count;
+        let share_of_neither = draft.random.pick(&[0, 20, 20, 50]);
+        let mut first_four =
+            if share_of_neither == 0 { [0, 0, 1, 1] } else { [0, 1, 2, draft.random.below(3)] };
+        first_four.rotate_left(draft.random.below(4) as usize);
+        let mut owners = Vec::from(first_four);
+        while owners.len() < count {
+            let owner = if draft.random.percent(share_of_neither) { 2 } else { draft.random.below(2) };
+            owners.push(owner);
+        }
+        let blocks_of = |owner: u32| owners.iter().map(|&one| one == owner).collect();
+        Blocks { own: [blocks_of(0), blocks_of(1)], neither: blocks_of(2) }
     }
-    let mut first: Vec<bool> = (0..blocks).map(|_| draft.random.percent(50)).collect();
-    // Both have at least two neighbouring blocks.
-    for (position, block) in first.iter_mut().take(4).enumerate() {
-        *block = position < 2;
+
+    /// A list stores in its own blocks, and reads from these and from blocks of neither.
+    fn room(&self, list: usize) -> Room {
+        let read = self.own[list].iter().zip(&self.neither).map(|(&own, &neither)| own || neither).collect();
+        Room { read, stored: self.own[list].clone() }
     }
-    let second = first.iter().map(|&block| !block).collect();
-    [first, second]
+
+    /// It reads from blocks of neither only, so that a request of the other list can read the same.
+    fn room_for_twins(&self, list: usize) -> Room {
+        Room { read: self.neither.clone(), stored: self.own[list].clone() }
+    }
 }
 
 /// The first request of a list is SSK; later ones are any, some repeated, a few damaged.

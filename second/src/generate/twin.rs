@@ -20,7 +20,7 @@ fn set_system_mask_twin(draft: &mut Draft) -> Option<Request> {
     let old_micblok = subtract(draft.find(&[Role::Micvpsw])?.address, 8);
     let old_virtual_psw = draft.find(&[Role::VirtualPsw])?.address;
     let micblok = draft.allocate(12, 8, 0);
-    let virtual_psw = draft.allocate(2, 2, 0);
+    let virtual_psw = draft.allocate_stored(2, 2);
     let miccreg = draft.image.word(add(old_micblok, 4));
     let micvpsw = draft.image.word(add(old_micblok, 8)) & 0xFF00_0000 | virtual_psw;
     let halfword = (draft.image.word(old_virtual_psw) >> 16) as u16;
@@ -42,7 +42,7 @@ fn store_control_twin(draft: &mut Draft) -> Option<Request> {
     }
     let words =
         1 + (u32::from(draft.first_halfword & 15) + 16 - u32::from(draft.first_halfword >> 4 & 15)) % 16;
-    let operand = draft.allocate(4 * words, 4, 0);
+    let operand = draft.allocate_stored(4 * words, 4);
     for word in 0..words {
         permit(draft, add(operand, 4 * word), true);
     }

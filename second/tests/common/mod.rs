@@ -1,6 +1,9 @@
 //! Running a set-up and checking what it gives.
 #![allow(dead_code)]
 
+pub mod recorded;
+
+use recorded::keys_after;
 use second::call::{changes, Change};
 use second::setup::Setup;
 use second::{Answer, ReferenceKind};
@@ -54,7 +57,8 @@ pub fn run(setup: &Setup) -> Ran {
     Ran { answer, bytes: changes(&storage_before, &storage), keys: changes(&keys_before, &keys) }
 }
 
-/// Run and check ending, count, and that only completion changes anything.
+/// Run and check ending, count, that only completion changes storage and record, and that the keys are as the list of
+/// references says.
 pub fn expect(setup: &Setup, ending: (u32, u32, u32), count: usize) -> Ran {
     let ran = run(setup);
     let given = ran.answer.ending;
@@ -66,8 +70,11 @@ pub fn expect(setup: &Setup, ending: (u32, u32, u32), count: usize) -> Ran {
         let next = (setup.guest.psw_32_63 & 0x00FF_FFFF).wrapping_add(length) & 0x00FF_FFFF;
         record.psw_32_63 = (setup.guest.psw_32_63 & 0xFF00_0000) | next;
     } else {
-        assert_eq!((&ran.bytes[..], &ran.keys[..]), (&[][..], &[][..]));
+        assert_eq!(ran.bytes, []);
     }
     assert_eq!(ran.answer.guest, record);
+    let keys_before = setup.image.key_bytes();
+    let keys = keys_after(&keys_before, &setup.request(), &ran.answer.references);
+    assert_eq!(ran.keys, changes(&keys_before, &keys));
     ran
 }

@@ -1,14 +1,18 @@
-//! Every edge against values worked out by hand from document 01.
+//! Every edge against values worked out by hand from document 01, with the keys as document 02, R-13 has them.
 //!
 //! Set-up (see `setup.rs`): 16 KiB, PSW key zero, DAT off, instruction at 1000, operand at 2000, MICBLOK at 400,
 //! ECBLOK at 500, virtual PSW at 600. Virtual register r is the word A0B0C0D0 + r times 01010101.
 
 #[path = "../common/expected.rs"]
 mod expected;
+mod recording;
 mod section;
 mod wrong_turns;
 
+use std::collections::BTreeSet;
+
 use expected::Expected;
+use recording::*;
 use second::edges::{large, small, Edge};
 use section::*;
 use wrong_turns::*;
@@ -18,6 +22,8 @@ fn expectations() -> Vec<Expected> {
     list.extend(set_system_mask());
     list.extend(store_then());
     list.extend(set_storage_key());
+    list.extend(set_storage_key_recording());
+    list.extend(other_recording());
     list.extend(wrong_turns_1_and_2());
     list.extend(wrong_turn_3());
     list.extend(wrong_turn_4());
@@ -36,11 +42,11 @@ fn every_edge_in_16_mib_gives_what_the_paper_says() {
 
 fn check(edges: &[Edge], expectations: &[Expected]) {
     assert_eq!(edges.len(), expectations.len());
-    for expected in expectations {
-        let named: Vec<_> =
-            edges.iter().filter(|edge| (edge.mnemonic(), edge.case.as_str()) == expected.name).collect();
-        assert_eq!(named.len(), 1, "{:?}", expected.name);
-        let result = named[0].run();
+    let names: BTreeSet<_> = expectations.iter().map(|expected| expected.name).collect();
+    assert_eq!(names.len(), edges.len(), "no two edges have one name");
+    for (edge, expected) in edges.iter().zip(expectations) {
+        assert_eq!((edge.mnemonic(), edge.case.as_str()), expected.name, "the edges are in this order");
+        let result = edge.run();
         let ending = result.answer.ending;
         let given = (ending.number(), ending.code_or_step(), ending.logical_address());
         assert_eq!(given, expected.ending, "{:?}", expected.name);
@@ -49,7 +55,7 @@ fn check(edges: &[Edge], expectations: &[Expected]) {
         assert_eq!(result.keys, expected.keys, "{:?}", expected.name);
         let record = result.answer.guest;
         assert_eq!(record.instruction_address(), expected.next, "{:?}", expected.name);
-        let mut alike = named[0].request.guest;
+        let mut alike = edge.request.guest;
         alike.psw_32_63 = record.psw_32_63;
         assert_eq!(record, alike, "nothing else in the record changes: {:?}", expected.name);
     }

@@ -1,6 +1,20 @@
-//! The list of edges in document 01.
+//! The list of edges in document 01. Keys, which are 00 at first but where it says otherwise: block 0 has MICBLOK,
+//! ECBLOK and virtual PSW, block 1 the tables of SSK, block 2 the instruction, block 4 the operand; what is read gets
+//! 04, what is stored 06 (document 02, R-13).
 
 use crate::expected::*;
+
+/// All that STCTL reads, and the same with its operand.
+const STCTL_READ: [Change; 2] = [(0, 0x00, 0x04), (2, 0x00, 0x04)];
+const STCTL_STORED: [Change; 3] = [(0, 0x00, 0x04), (2, 0x00, 0x04), (4, 0x00, 0x06)];
+
+/// All that SSM reads, and the same with the virtual PSW stored.
+const SSM_READ: [Change; 3] = [(0, 0x00, 0x04), (2, 0x00, 0x04), (4, 0x00, 0x04)];
+const SSM_STORED: [Change; 3] = [(0, 0x00, 0x06), (2, 0x00, 0x04), (4, 0x00, 0x04)];
+
+/// What STNSM and STOSM read up to step 4, and all with operand and virtual PSW stored.
+const STORE_THEN_READ: [Change; 1] = [(0, 0x00, 0x04)];
+const STORE_THEN_STORED: [Change; 3] = [(0, 0x00, 0x06), (2, 0x00, 0x04), (4, 0x00, 0x06)];
 
 /// Registers 1 to 15, then 0.
 fn sixteen_words() -> Vec<Change> {
@@ -30,25 +44,32 @@ pub fn store_control() -> Vec<Expected> {
         words(&[(0x2000, 0xAEBECEDE), (0x2004, 0xAFBFCFDF), (0x2008, 0xA0B0C0D0), (0x200C, 0xA1B1C1D1)]);
     vec![
         // 1 + 2 + 4 + 4 + 4
-        expect(("STCTL", "R1=14, R3=1: registers 14, 15, 0, 1"), COMPLETED, 15, &four, &[], 0x1004),
+        expect(("STCTL", "R1=14, R3=1: registers 14, 15, 0, 1"), COMPLETED, 15, &four, &STCTL_STORED, 0x1004),
         // 1 + 2 + 1 + 1 + 1
         expect(
             ("STCTL", "R1=R3=5: one register"),
             COMPLETED,
             6,
             &words(&[(0x2000, 0xA5B5C5D5)]),
-            &[],
+            &STCTL_STORED,
             0x1004,
         ),
         // 1 + 2 + 16 + 16 + 16
-        expect(("STCTL", "R1=1, R3=0: sixteen registers"), COMPLETED, 51, &sixteen_words(), &[], 0x1004),
+        expect(
+            ("STCTL", "R1=1, R3=0: sixteen registers"),
+            COMPLETED,
+            51,
+            &sixteen_words(),
+            &STCTL_STORED,
+            0x1004,
+        ),
         // 1 + 2 + 2 + key of the first word; the second makes no entry.
         expect(
             ("STCTL", "operand 3FFFFC, two registers, 4 MiB: second word not in storage"),
             ADDRESSING,
             6,
             &[],
-            &[],
+            &STCTL_READ,
             0x1000,
         ),
     ]
@@ -65,50 +86,59 @@ pub fn large_store_control() -> Vec<Expected> {
             COMPLETED,
             9,
             &round,
-            &[],
+            &[(0x0, 0x00, 0x06), (0x2, 0x00, 0x04), (0x1FFF, 0x00, 0x06)],
             0x1004,
         ),
         expect(("STCTL", "storage one block over 16 MiB"), (10, 0, 0), 0, &[], &[], 0x1000),
-        // 1 + 2 + 3 registers + 3 keys; the third protects.
-        expect(("STCTL", protected), PROTECTION, 9, &[], &[], 0x1000),
+        // 1 + 2 + 3 registers + 3 keys; the third protects. Key 0 is 20 and key 1FFF is 10 at first: both blocks are
+        // tested, block 0 is read too.
+        expect(("STCTL", protected), PROTECTION, 9, &[], &[(0x0, 0x20, 0x24), (0x2, 0x00, 0x04)], 0x1000),
+        // 1 + 2 + 1 + 1 + 1. Register 15 is read from FFFFFE to 000001, MICCREG (1404) and the second halfword (1002)
+        // in block 2.
+        expect(
+            ("STCTL", "register 15 round the top: both blocks"),
+            COMPLETED,
+            6,
+            &words(&[(0x2000, 0xAFBFCFDF)]),
+            &[(0x0, 0x00, 0x04), (0x2, 0x00, 0x04), (0x4, 0x00, 0x06), (0x1FFF, 0x00, 0x04)],
+            0x1004,
+        ),
     ]
 }
 
 /// SSM counts: MICCREG, virtual register 0, halfword 2, operand byte 2, MICVPSW, virtual PSW: 8; the store: 9.
 pub fn set_system_mask() -> Vec<Expected> {
+    let completed =
+        |case, old, new| expect(("SSM", case), COMPLETED, 9, &[(0x600, old, new)], &SSM_STORED, 0x1004);
+    let ended = |case, ending| expect(("SSM", case), ending, 8, &[], &SSM_READ, 0x1000);
     vec![
-        expect(("SSM", "EC, old 04, new 07"), COMPLETED, 9, &[(0x600, 0x04, 0x07)], &[], 0x1004),
-        expect(("SSM", "EC, old 04, new 07, pending, expanded installed"), EXPANDED, 8, &[], &[], 0x1000),
-        expect(("SSM", "EC, old 04, new 07, pending, expanded not installed"), REFUSED, 8, &[], &[], 0x1000),
-        expect(("SSM", "EC, old 04, new 84, expanded installed"), EXPANDED, 8, &[], &[], 0x1000),
-        expect(("SSM", "EC, old 04, new 84, expanded not installed"), REFUSED, 8, &[], &[], 0x1000),
-        expect(("SSM", "BC, pending, old FF, new 00"), COMPLETED, 9, &[(0x600, 0xFF, 0x00)], &[], 0x1004),
-        expect(("SSM", "BC, pending, old 00, new 01, expanded installed"), REFUSED, 8, &[], &[], 0x1000),
-        expect(("SSM", "BC, pending, old 00, new 01, expanded not installed"), REFUSED, 8, &[], &[], 0x1000),
+        completed("EC, old 04, new 07", 0x04, 0x07),
+        ended("EC, old 04, new 07, pending, expanded installed", EXPANDED),
+        ended("EC, old 04, new 07, pending, expanded not installed", REFUSED),
+        ended("EC, old 04, new 84, expanded installed", EXPANDED),
+        ended("EC, old 04, new 84, expanded not installed", REFUSED),
+        completed("BC, pending, old FF, new 00", 0xFF, 0x00),
+        ended("BC, pending, old 00, new 01, expanded installed", REFUSED),
+        ended("BC, pending, old 00, new 01, expanded not installed", REFUSED),
     ]
 }
 
 /// STNSM and STOSM counts: MICVPSW, virtual PSW: 2; halfword 2, key of the operand 1, two stores: 7.
 pub fn store_then() -> Vec<Expected> {
+    let completed = |name, bytes: &[Change]| expect(name, COMPLETED, 7, bytes, &STORE_THEN_STORED, 0x1004);
+    let ended = |case, ending| expect(("STNSM", case), ending, 2, &[], &STORE_THEN_READ, 0x1000);
     vec![
-        expect(
-            ("STNSM", "EC, old 07, AND FC"),
-            COMPLETED,
-            7,
-            &[(0x600, 0x07, 0x04), (0x2000, 0x00, 0x07)],
-            &[],
-            0x1004,
-        ),
-        expect(("STNSM", "EC, old 07, AND F8, expanded installed"), EXPANDED, 2, &[], &[], 0x1000),
-        expect(("STNSM", "EC, old 07, AND F8, expanded not installed"), REFUSED, 2, &[], &[], 0x1000),
+        completed(("STNSM", "EC, old 07, AND FC"), &[(0x600, 0x07, 0x04), (0x2000, 0x00, 0x07)]),
+        ended("EC, old 07, AND F8, expanded installed", EXPANDED),
+        ended("EC, old 07, AND F8, expanded not installed", REFUSED),
         // 07 OR 03 is 07: no bit goes to one, and the virtual PSW byte is stored with the same value.
-        expect(("STOSM", "EC, pending, old 07, OR 03"), COMPLETED, 7, &[(0x2000, 0x00, 0x07)], &[], 0x1004),
-        expect(("STOSM", "BC, pending, old 07, OR 03"), COMPLETED, 7, &[(0x2000, 0x00, 0x07)], &[], 0x1004),
+        completed(("STOSM", "EC, pending, old 07, OR 03"), &[(0x2000, 0x00, 0x07)]),
+        completed(("STOSM", "BC, pending, old 07, OR 03"), &[(0x2000, 0x00, 0x07)]),
     ]
 }
 
 /// SSK counts: MICRSEG, segment entry, swap address, swap word, page entry: 5; key consulted and set, store: 8.
-/// The swap word is at D00 + 8 times 3 = D18.
+/// The swap word is at D00 + 8 times 3 = D18. The page is in block 2 or 3, where no table is.
 pub fn set_storage_key() -> Vec<Expected> {
     vec![
         // 08003E00
@@ -117,7 +147,7 @@ pub fn set_storage_key() -> Vec<Expected> {
             COMPLETED,
             8,
             &[(0xD18, 0x00, 0x08), (0xD1A, 0x00, 0x3E)],
-            &[(2, 0x04, 0x38)],
+            &[(0, 0x00, 0x04), (1, 0x00, 0x06), (2, 0x04, 0x38)],
             0x1002,
         ),
         // 0200003E
@@ -126,7 +156,7 @@ pub fn set_storage_key() -> Vec<Expected> {
             COMPLETED,
             8,
             &[(0xD18, 0x00, 0x02), (0xD1B, 0x00, 0x3E)],
-            &[(3, 0x04, 0x38)],
+            &[(0, 0x00, 0x04), (1, 0x00, 0x06), (3, 0x04, 0x38)],
             0x1002,
         ),
     ]

@@ -39,17 +39,29 @@ const BIT_20_ONE: [Row; 12] = [
     ("figure 13: bit 20 one, old key C7, swap word FFFFFFFF", (0xFF, 0xFF), 0xFF, (0xC7, 0x39)),
 ];
 
+/// Keys 0 (MICBLOK: read, 04) and 1 (tables: read and stored, 06) are 96, 92, 94 or 90 at first, with the bits that the
+/// page's own key has not.
+fn recorded(old_key: u8) -> &'static [Change] {
+    match old_key {
+        0xC1 => &[],
+        0xC4 => &[(0, 0x92, 0x96), (1, 0x92, 0x96)],
+        0xC2 => &[(1, 0x94, 0x96)],
+        _ => &[(0, 0x90, 0x94), (1, 0x90, 0x96)],
+    }
+}
+
 fn figure_13_row(row: Row, key_byte_address: u32, key_number: u32) -> Expected {
     let (case, (byte_0, new_byte_0), key_byte, (key, new_key)) = row;
     let mut bytes = vec![(0xD18, byte_0, new_byte_0), (key_byte_address, key_byte, 0x3E)];
     bytes.retain(|change| change.1 != change.2);
-    expect(("SSK", case), COMPLETED, 8, &bytes, &[(key_number, key, new_key)], 0x1002)
+    let keys = [recorded(key), &[(key_number, key, new_key)]].concat();
+    expect(("SSK", case), COMPLETED, 8, &bytes, &keys, 0x1002)
 }
 
 pub fn figure_13() -> Vec<Expected> {
     let mut list: Vec<Expected> = BIT_20_ZERO.into_iter().map(|row| figure_13_row(row, 0xD1A, 2)).collect();
     list.extend(BIT_20_ONE.into_iter().map(|row| figure_13_row(row, 0xD1B, 3)));
-    // Invalid page: five fields and the store, no key; only the key byte changes.
+    // Invalid page: five fields and the store, no key; only the key byte changes. All keys are 96.
     list.push(expect(
         ("SSK", "figure 13: bit 20 zero, invalid page, swap word F0E1D2C3"),
         COMPLETED,
@@ -69,7 +81,9 @@ pub fn figure_13() -> Vec<Expected> {
     list
 }
 
-/// Case and address of the swap word 90A1B2C3; key 2 is 06, so 90 OR 0C is 9C, and B2 becomes 3E.
+/// Case and address of the swap word 90A1B2C3; key 2 is 06, so 90 OR 0C is 9C, and B2 becomes 3E. Blocks 0 and 1 are
+/// read, and the swap word is stored in block 1, but for page FF: there it is at 14F8, in block 2 and so the page's
+/// own, whose key is first set to 38, then stored in.
 const LOWER_HALF: [(&str, u32); 15] = [
     ("figure 14: MICRSEG at 0", 0xD18),
     ("figure 14: SEGPAGE at 4SX, 64K, SX 00", 0xD18),
@@ -91,7 +105,9 @@ const LOWER_HALF: [(&str, u32); 15] = [
 pub fn figure_14() -> Vec<Expected> {
     let lower = |(case, swap_word): (&'static str, u32)| {
         let bytes = [(swap_word, 0x90, 0x9C), (swap_word + 2, 0xB2, 0x3E)];
-        expect(("SSK", case), COMPLETED, 8, &bytes, &[(2, 0x06, 0x38)], 0x1002)
+        let (key_1, key_2) = if swap_word == 0x14F8 { (0x04, 0x3E) } else { (0x06, 0x38) };
+        let keys = [(0, 0x00, 0x04), (1, 0x00, key_1), (2, 0x06, key_2)];
+        expect(("SSK", case), COMPLETED, 8, &bytes, &keys, 0x1002)
     };
     let mut list: Vec<Expected> = LOWER_HALF.into_iter().map(lower).collect();
     // Key 3 is 02, change alone: 90 OR 01 is 91, and C3 becomes 3E.
@@ -100,7 +116,7 @@ pub fn figure_14() -> Vec<Expected> {
         COMPLETED,
         8,
         &[(0xD18, 0x90, 0x91), (0xD1B, 0xC3, 0x3E)],
-        &[(3, 0x02, 0x38)],
+        &[(0, 0x00, 0x04), (1, 0x00, 0x06), (3, 0x02, 0x38)],
         0x1002,
     ));
     list.push(expect(
@@ -108,7 +124,7 @@ pub fn figure_14() -> Vec<Expected> {
         COMPLETED,
         8,
         &[(0xD18, 0x00, 0x0C), (0xD1A, 0x00, 0x3E)],
-        &[(2, 0x06, 0x38)],
+        &[(0, 0x00, 0x04), (1, 0x00, 0x06), (2, 0x06, 0x38)],
         0x1002,
     ));
     list

@@ -1,21 +1,40 @@
-//! SSM, STCTL, STNSM and STOSM.
+//! SSM, STCTL, STNSM and STOSM. All keys are 00 at first: block 0 has the control fields, 2 the instruction, 4 the
+//! operand; with DAT on 6 has the tables, A the instruction, C the operand. What is read gets 04, what is stored 06.
 
 use crate::expected::*;
+
+/// Of control fields alone.
+const FIELDS_READ: [Change; 1] = [(0x0, 0x00, 0x04)];
 
 /// SSM: MICCREG, register 0, halfword 2, operand byte 2, MICVPSW, virtual PSW: 8; the store: 9. With DAT on a
 /// segment and a page entry more for halfword and operand: 13.
 pub fn figure_15() -> Vec<Expected> {
     let completed = |case: &'static str, old: u8, new: u8| {
-        expect(("SSM", case), COMPLETED, 9, &[(0x600, old, new)], &[], 0x1004)
+        let keys = [(0x0, 0x00, 0x06), (0x2, 0x00, 0x04), (0x4, 0x00, 0x04)];
+        expect(("SSM", case), COMPLETED, 9, &[(0x600, old, new)], &keys, 0x1004)
     };
     vec![
         completed("figure 15: MICCREG at 4", 0x47, 0x45),
         completed("figure 15: EXTCR0 at 0, bit 1 zero among ones", 0x47, 0x45),
         // MICCREG and register 0.
-        expect(("SSM", "figure 15: EXTCR0 at 0, bit 1 one among zeros"), REFUSED, 2, &[], &[], 0x1000),
+        expect(
+            ("SSM", "figure 15: EXTCR0 at 0, bit 1 one among zeros"),
+            REFUSED,
+            2,
+            &[],
+            &FIELDS_READ,
+            0x1000,
+        ),
         completed("figure 15: MICVPSW at 8", 0x47, 0x45),
         completed("figure 15: MICVPSW bit 0 zero among ones: not pending", 0x04, 0x07),
-        expect(("SSM", "figure 15: MICVPSW bit 0 one among zeros: pending"), EXPANDED, 8, &[], &[], 0x1000),
+        expect(
+            ("SSM", "figure 15: MICVPSW bit 0 one among zeros: pending"),
+            EXPANDED,
+            8,
+            &[],
+            &[(0x0, 0x00, 0x04), (0x2, 0x00, 0x04), (0x4, 0x00, 0x04)],
+            0x1000,
+        ),
         completed("figure 15: VMPSW of 2 bytes at 0, EC, neighbours BB", 0x4F, 0x45),
         completed("figure 15: VMPSW of 2 bytes at 0, BC, neighbours 4C", 0xFF, 0x00),
         completed("figure 15: operand of 1 byte", 0x47, 0x45),
@@ -24,7 +43,7 @@ pub fn figure_15() -> Vec<Expected> {
             COMPLETED,
             13,
             &[(0x600, 0x47, 0x45)],
-            &[],
+            &[(0x0, 0x00, 0x06), (0x6, 0x00, 0x04), (0xA, 0x00, 0x04), (0xC, 0x00, 0x04)],
             0x1004,
         ),
     ]
@@ -58,10 +77,11 @@ fn stored(numbers: &[usize]) -> Vec<Change> {
 
 /// STCTL of n registers: MICCREG, halfword 2, n registers, n keys, n stores: 3 + 3n.
 pub fn figure_16() -> Vec<Expected> {
+    let keys = [(0x0, 0x00, 0x04), (0x2, 0x00, 0x04), (0x4, 0x00, 0x06)];
     let mut list =
-        vec![expect(("STCTL", "figure 16: MICCREG at 4"), COMPLETED, 6, &stored(&[5]), &[], 0x1004)];
+        vec![expect(("STCTL", "figure 16: MICCREG at 4"), COMPLETED, 6, &stored(&[5]), &keys, 0x1004)];
     for (number, (case, _)) in REGISTERS.into_iter().enumerate() {
-        list.push(expect(("STCTL", case), COMPLETED, 6, &stored(&[number]), &[], 0x1004));
+        list.push(expect(("STCTL", case), COMPLETED, 6, &stored(&[number]), &keys, 0x1004));
     }
     let from_0 = [0, 1, 2, 3, 4, 5, 6, 7, 8, 9, 10, 11, 12, 13, 14, 15];
     let from_1 = [1, 2, 3, 4, 5, 6, 7, 8, 9, 10, 11, 12, 13, 14, 15, 0];
@@ -72,7 +92,7 @@ pub fn figure_16() -> Vec<Expected> {
         ("figure 16: operand of 4n bytes, R1=0, R3=15, n=16", &from_0, 51),
         ("figure 16: operand of 4n bytes, R1=1, R3=0, n=16", &from_1, 51),
     ] {
-        list.push(expect(("STCTL", case), COMPLETED, count, &stored(numbers), &[], 0x1004));
+        list.push(expect(("STCTL", case), COMPLETED, count, &stored(numbers), &keys, 0x1004));
     }
     // Segment and page entry for halfword and operand word: 4 more. The operand is in frame 006000.
     list.push(expect(
@@ -80,7 +100,7 @@ pub fn figure_16() -> Vec<Expected> {
         COMPLETED,
         10,
         &words(&[(0x6000, 0xA5B5C5D5)]),
-        &[],
+        &[(0x0, 0x00, 0x04), (0x6, 0x00, 0x04), (0xA, 0x00, 0x04), (0xC, 0x00, 0x06)],
         0x1004,
     ));
     list
@@ -93,7 +113,12 @@ fn completed(
     (old, new): (u8, u8),
     operand: u32,
 ) -> Expected {
-    expect(name, COMPLETED, count, &[(0x600, old, new), (operand, 0x00, old)], &[], 0x1004)
+    let keys = if operand == 0x6000 {
+        vec![(0x0, 0x00, 0x06), (0x6, 0x00, 0x04), (0xA, 0x00, 0x04), (0xC, 0x00, 0x06)]
+    } else {
+        vec![(0x0, 0x00, 0x06), (0x2, 0x00, 0x04), (0x4, 0x00, 0x06)]
+    };
+    expect(name, COMPLETED, count, &[(0x600, old, new), (operand, 0x00, old)], &keys, 0x1004)
 }
 
 pub fn figure_17() -> Vec<Expected> {
@@ -107,7 +132,7 @@ pub fn figure_17() -> Vec<Expected> {
             EXPANDED,
             2,
             &[],
-            &[],
+            &FIELDS_READ,
             0x1000,
         ),
         completed(("STNSM", "figure 17: VMPSW of 2 bytes at 0, BC, neighbours 4C"), 7, (0x47, 0x00), 0x2000),
@@ -127,14 +152,21 @@ pub fn figure_18() -> Vec<Expected> {
             (0x04, 0x07),
             0x2000,
         ),
-        expect(("STOSM", "figure 18: MICVPSW bit 0 one among zeros: pending"), EXPANDED, 2, &[], &[], 0x1000),
+        expect(
+            ("STOSM", "figure 18: MICVPSW bit 0 one among zeros: pending"),
+            EXPANDED,
+            2,
+            &[],
+            &FIELDS_READ,
+            0x1000,
+        ),
         // OR 40: bit 1 goes to one.
         expect(
             ("STOSM", "figure 18: VMPSW of 2 bytes at 0, EC, neighbours 00"),
             EXPANDED,
             2,
             &[],
-            &[],
+            &FIELDS_READ,
             0x1000,
         ),
         completed(("STOSM", "figure 18: VMPSW of 2 bytes at 0, BC, neighbours 4C"), 7, (0x04, 0x87), 0x2000),

@@ -1,4 +1,5 @@
-//! The impostors' lists; changes are those of each call by itself.
+//! The impostors' lists; changes are those of each call by itself, so that a later call changes no key that an earlier
+//! one has recorded in. Blocks: 0 control fields, 1 tables of SSK, 2 instruction, 4 operand.
 
 use crate::expected::*;
 
@@ -17,7 +18,7 @@ fn list_of_masks() -> Vec<Expected> {
             COMPLETED,
             7,
             &[(0x600, 0x04, 0x07), (0x2000, 0x00, 0x04)],
-            &[],
+            &[(0, 0x00, 0x06), (2, 0x00, 0x04), (4, 0x00, 0x06)],
             0x1004,
         ),
         // 07 AND FE is 06; old 07 at the operand, over 04.
@@ -48,7 +49,7 @@ fn list_of_keys() -> Vec<Expected> {
             COMPLETED,
             8,
             &[(0xD18, 0x00, 0x0C), (0xD1A, 0x00, 0x3E)],
-            &[(2, 0x07, 0x39)],
+            &[(0, 0x00, 0x04), (1, 0x00, 0x06), (2, 0x07, 0x39)],
             0x1002,
         ),
         // Key 39 has neither bit: byte 0 keeps 0C. C6: key bits C0 with 01, swap byte C6.
@@ -70,7 +71,7 @@ fn list_of_register_0() -> Vec<Expected> {
             COMPLETED,
             9,
             &[(0x600, 0x00, 0x55)],
-            &[],
+            &[(0, 0x00, 0x06), (2, 0x00, 0x04), (4, 0x00, 0x04)],
             0x1004,
         ),
         // 1 + 2 + 1 + 1 + 1; 80000000 becomes E4B4C4D4.
@@ -79,7 +80,7 @@ fn list_of_register_0() -> Vec<Expected> {
             COMPLETED,
             6,
             &[(0x500, 0x80, 0xE4), (0x501, 0x00, 0xB4), (0x502, 0x00, 0xC4), (0x503, 0x00, 0xD4)],
-            &[],
+            &[(0, 0x00, 0x06), (2, 0x00, 0x04)],
             0x1004,
         ),
         // MICCREG, virtual register 0.

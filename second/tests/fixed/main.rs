@@ -1,4 +1,5 @@
-//! The fixed calls of every file of calls against values worked out by hand from document 01.
+//! The fixed calls of every file of calls against values worked out by hand from document 01, with the keys as document
+//! 02, R-13 has them.
 //!
 //! Set-up (see `setup.rs`): 16 KiB, PSW key zero, DAT off, instruction at 1000, operand at 2000, MICBLOK at 400,
 //! ECBLOK at 500, virtual PSW at 600. Virtual register r is the word A0B0C0D0 + r times 01010101.

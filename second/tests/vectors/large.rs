@@ -1,4 +1,4 @@
-//! A set with `--large`: sizes, and items that go round from FFFFFF to 000000.
+//! A set with `--large`: sizes, items that go round from FFFFFF to 000000, and recording in both their blocks.
 
 use std::collections::BTreeSet;
 use std::ops::RangeInclusive;
@@ -37,13 +37,21 @@ fn going_round(call: &ReadCall, answer: &Answer) -> Vec<&'static str> {
     items
 }
 
+/// Whether an item that goes round is in a block (the first or the last) whose reference bit is zero before the call.
+fn records_round_the_top(call: &ReadCall, answer: &Answer) -> bool {
+    let goes_round = |bytes: &[u32]| bytes.windows(2).any(|two| two == [0xFF_FFFF, 0]);
+    let is_zero = |number: usize| call.keys[number] & 0x04 == 0;
+    answer.references.iter().any(|entry| goes_round(&entry.bytes)) && (is_zero(0) || is_zero(8_191))
+}
+
 #[test]
 fn sizes_and_items_that_go_round() {
     let set = VectorSet::new(SetOptions { seed: 1, calls: 50, large: true });
-    let (mut sizes, mut items, mut completed) = (Vec::new(), BTreeSet::new(), 0);
+    let (mut sizes, mut items, mut completed, mut recorded) = (Vec::new(), BTreeSet::new(), 0, 0);
     let printed = read(set.stdin(), &mut |call: &ReadCall, answer: &Answer| {
         sizes.push(call.storage.len());
-        assert!(call.key_count <= 8_448);
+        assert!(call.keys.len() <= 8_448);
+        recorded += usize::from(records_round_the_top(call, answer));
         if answer.ending.number() == 0 {
             completed += 1;
             items.extend(going_round(call, answer));
@@ -57,6 +65,7 @@ fn sizes_and_items_that_go_round() {
     assert!(of_size(16_779_264..=16_779_264) >= 1);
     assert!(of_size(4_194_305..=16_777_215) >= 1);
     assert!(completed >= 20, "{completed}");
+    assert!(recorded >= 3, "{recorded}");
     for item in ["MICBLOK", "virtual register", "virtual PSW", "swap word", "operand"] {
         assert!(items.contains(item), "{item}");
     }

@@ -4,10 +4,12 @@ mod large;
 mod pairs_in_file;
 mod reached;
 mod reader;
+mod recording;
 
 use std::sync::OnceLock;
 
 use reader::{read, Crc, ReadCall};
+use recording::RecordingTally;
 use second::report::{micrseg, Tally};
 use second::vectors::{SetOptions, Shares, VectorSet};
 use second::Answer;
@@ -22,6 +24,7 @@ fn stored_set() -> &'static VectorSet {
 struct ReadSet {
     printed: String,
     tally: Tally,
+    recording: RecordingTally,
     storage_sizes: Vec<usize>,
     most_keys: usize,
     /// Calls on each storage, in the order of the file.
@@ -29,16 +32,17 @@ struct ReadSet {
 }
 
 fn read_set(set: &VectorSet) -> ReadSet {
-    let mut tally = Tally::default();
+    let (mut tally, mut recording) = (Tally::default(), RecordingTally::default());
     let (mut storage_sizes, mut calls_on_storage, mut most_keys) = (Vec::new(), Vec::new(), 0);
     let printed = read(set.stdin(), &mut |call: &ReadCall, answer: &Answer| {
         tally.add(&call.request, micrseg(call.storage, &call.request), answer);
+        recording.add(call, answer);
         storage_sizes.push(call.storage.len());
-        most_keys = most_keys.max(call.key_count);
+        most_keys = most_keys.max(call.keys.len());
         calls_on_storage.resize(call.storage_number, 0);
         calls_on_storage[call.storage_number - 1] += 1;
     });
-    ReadSet { printed, tally, storage_sizes, most_keys, calls_on_storage }
+    ReadSet { printed, tally, recording, storage_sizes, most_keys, calls_on_storage }
 }
 
 /// The stored set as it is read back from its text.

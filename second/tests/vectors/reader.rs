@@ -3,10 +3,10 @@
 
 use second::{Answer, Guest, Request};
 
-/// A call as the file gives it, with the storage that it finds.
+/// A call as the file gives it, with the storage and keys that it finds.
 pub struct ReadCall<'a> {
     pub storage: &'a [u8],
-    pub key_count: usize,
+    pub keys: &'a [u8],
     pub request: Request,
     /// Number of the `s` line since which the storage stands, from 1.
     pub storage_number: usize,
@@ -112,10 +112,10 @@ impl Reader {
         let guest = self.record.expect("a record comes before the first call");
         assert!(self.storages > 0, "a storage comes before the first call");
         let request = Request { guest, first_halfword: hex(parts[0]) as u16, expanded };
-        let before = self.storage.clone();
+        let (storage_before, keys_before) = (self.storage.clone(), self.keys.clone());
         let answer = request.make(&mut self.storage, &mut self.keys);
         let found =
-            ReadCall { storage: &before, key_count: self.keys.len(), request, storage_number: self.storages };
+            ReadCall { storage: &storage_before, keys: &keys_before, request, storage_number: self.storages };
         visit(&found, &answer);
         self.calls += 1;
         let ending = answer.ending;

@@ -8,21 +8,28 @@ use Rattle.rules.specs.Machine.{Machine}
 use Rattle.rules.specs.References.{Reference}
 use Rattle.rules.specs.Run.{Outcome, ended, gave}
 use Rattle.rules.specs.Call.{Call, operation, Completion}
-use Rattle.rules.specs.Attempt.{conclude, reading}
+use Rattle.rules.specs.Attempt.{program, conclude, reading}
+use Rattle.rules.specs.Theorems.Isolation.{All}
 use Rattle.rules.specs.Theorems.Answers.{Answered, EveryCallAnswered}
+use Rattle.rules.proofs.Recording.{notedAll-storage, notedAll-length}
+use Rattle.rules.proofs.Reading.{Reads, run-reads, read-same, read-bit}
 use Rattle.rules.proofs.Within.{Came}
 use Rattle.rules.proofs.Fits.{Stops, Completes}
 use Rattle.rules.proofs.Fits.Attempt.{reading-came}
 
 concluded : (m : Machine) (c : Call) (rs : List Reference) (o : Outcome Completion)
-    → Came (Stops (operation c)) (Completes (operation c) c) 85 (length rs) o
+    → Came (Stops (operation c)) (Completes (operation c) c) 85 (length rs) o → All Reads rs
     → Answered m c (conclude m (c .guest) rs o)
-concluded m c rs (ended e) h = record {
+concluded m c rs (ended e) h r = record {
   possible = h .0 .possible;
-  untouched = λ n. (refl, refl);
+  untouched = λ n. record {
+    guest = refl;
+    storage = notedAll-storage m rs;
+    keys = record { count = notedAll-length m rs; others = read-same m rs r; referenceBit = read-bit m rs r };
+  };
   advanced = λ z. absurd (true≢false (sym (eq-eqb _ _ z) ∙ h .0 .short));
 }
-concluded m c rs (gave k) h = record {
+concluded m c rs (gave k) h r = record {
   possible = h .1 .possible;
   untouched = λ n. absurd (n refl);
   advanced = λ z. h .1 .advanced;
@@ -31,3 +38,4 @@ concluded m c rs (gave k) h = record {
 pub every-call-answered : EveryCallAnswered
 every-call-answered m c =
     concluded m c (reading m c .references) (reading m c .outcome) (reading-came m c)
+    (run-reads (program (length (m .storage)) (length (m .keys)) c) m)

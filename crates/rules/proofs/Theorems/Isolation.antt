@@ -1,19 +1,35 @@
 -- Demand 3. Three machines are followed: one list's alone, the other's alone, and both lists'. Outside what one list
--- may put, the third agrees with the other's; so each call reads the same as alone (locality), and does the same.
+-- may put, the third agrees with the other's, but for reference bits; so each call reads the same as alone (locality),
+-- and does the same.
 use Prim.Native.Nat.{ℕ}
-use mathlib.Core.Path.{_≡_, refl, sym, ap, _∙_}
+use mathlib.Core.Path.{_≡_, refl, sym, ap, _∙_, subst}
+use mathlib.Core.Bool.{Bool, true, false, _||_, or-assoc, or-false}
 use mathlib.Core.List.{List, [], _∷_, map}
 use lib.ListN.{length, getD}
-use Rattle.rules.specs.Machine.{Machine, addresses, Write, store, setKey}
-use Rattle.rules.specs.References.{seenAs, Reference, fetched, consulted, wrote, keySet, bytesOf, entry}
+use lib.Dec.{ltb}
+use borrow.Author.Tests.{lt-ltb}
+use Rattle.rules.specs.Machine.{Machine}
+use Rattle.rules.specs.Writes.{entry}
+use Rattle.rules.specs.References.{
+  Reference,
+  fetched,
+  consulted,
+  ForProtection,
+  Whole,
+  wrote,
+  keySet,
+  bytesOf,
+}
 use Rattle.rules.specs.Guest.{Guest}
 use Rattle.rules.specs.Run.{Outcome, ended, gave, run}
 use Rattle.rules.specs.Call.{Call, Completion}
 use Rattle.rules.specs.Attempt.{program, conclude, reading, attempt}
 use Rattle.rules.specs.Calls.{answers, left, references}
+use Rattle.rules.specs.Theorems.ReferenceBits.{isReferred, touched}
 use Rattle.rules.specs.Theorems.Isolation.{
   All,
   Part,
+  WholeBlocks,
   Keeps,
   Interleaving,
   over,
@@ -22,138 +38,45 @@ use Rattle.rules.specs.Theorems.Isolation.{
   arrange,
   GuestsIsolated,
 }
-use Rattle.rules.proofs.All.{all-left, all-right, all-append, all-map, all-both}
-use Rattle.rules.proofs.Puts.{
-  Put,
-  puts,
-  length-puts,
-  puts-both,
-  puts-other,
-  bytesPut,
-  inStorage,
-  inKeys,
-  performed-storage,
-  performed-keys,
+use Rattle.rules.proofs.All.{all-left, all-right, all-map}
+use Rattle.rules.proofs.Recording.{same-trans, touched-append}
+use Rattle.rules.proofs.Acts.{effect, acts-effect, concluded-length, concluded-at}
+use Rattle.rules.proofs.Together.{
+  Bytes,
+  storagePuts,
+  concluded-storage,
+  put-bytes,
+  Together,
+  start,
+  turned,
+  bytes-put,
+  keys-done,
 }
 use Rattle.rules.proofs.Local.{SameKey, Agree, local}
 
--- ---- what an attempt puts
-
--- in the one and not in the other
-abbrev minus : (P Q : ℕ → Type 0) → ℕ → Type 0
-minus P Q x = P x × (Q x → ⊥)
-
-abbrev storagePuts : Outcome Completion → List Put
-storagePuts (ended e) = []
-storagePuts (gave c) = inStorage (c .writes)
-
-abbrev keyPuts : Outcome Completion → List Put
-keyPuts (ended e) = []
-keyPuts (gave c) = inKeys (c .writes)
-
-concluded-storage : (m : Machine) (g : Guest) (rs : List Reference) (o : Outcome Completion)
-    → conclude m g rs o .after .storage ≡ puts (m .storage) (storagePuts o)
-concluded-storage m g rs (ended e) = refl
-concluded-storage m g rs (gave c) = performed-storage m (c .writes)
-
-concluded-keys : (m : Machine) (g : Guest) (rs : List Reference) (o : Outcome Completion)
-    → conclude m g rs o .after .keys ≡ puts (m .keys) (keyPuts o)
-concluded-keys m g rs (ended e) = refl
-concluded-keys m g rs (gave c) = performed-keys m (c .writes)
-
-module _ (p q : Part) where
-  abbrev Bytes : ℕ → Type 0
-  Bytes = minus (p .bytes) (q .bytes)
-
-  abbrev Keys : ℕ → Type 0
-  Keys = minus (p .keys) (q .keys)
-
-  places : (P : ℕ → Type 0) (at : List ℕ) (v : ℕ) → All P at → All (λ x. P (x .place)) (bytesPut at v)
-  places P [] v h = tt
-  places P (a ∷ at) v h = (h .0, places P at v (h .1))
-
-  writes-bytes : (ws : List Write) → All (Keeps p q) (map entry ws) → All (λ x. Bytes (x .place)) (inStorage ws)
-  writes-bytes [] h = tt
-  writes-bytes (store a n v ∷ ws) h =
-      all-append (λ x. Bytes (x .place)) (bytesPut (addresses a n) v) (inStorage ws)
-      (places Bytes (addresses a n) v
-      (all-both (p .bytes) (λ x. q .bytes x → ⊥) (addresses a n) (h .0 .stores) (h .0 .consults .bytes)))
-      (writes-bytes ws (h .1))
-  writes-bytes (setKey b v ∷ ws) h = writes-bytes ws (h .1)
-
-  writes-keys : (ws : List Write) → All (Keeps p q) (map entry ws) → All (λ x. Keys (x .place)) (inKeys ws)
-  writes-keys [] h = tt
-  writes-keys (store a n v ∷ ws) h = writes-keys ws (h .1)
-  writes-keys (setKey b v ∷ ws) h = ((h .0 .stores, h .0 .consults .keys .0), writes-keys ws (h .1))
-
-  module _ (m : Machine) (g : Guest) (rs : List Reference) where
-    put-bytes : (o : Outcome Completion) → All (Keeps p q) (conclude m g rs o .references)
-        → All (λ x. Bytes (x .place)) (storagePuts o)
-    put-bytes (ended e) h = tt
-    put-bytes (gave c) h = writes-bytes (c .writes) (all-right (Keeps p q) rs (map entry (c .writes)) h)
-
-    put-keys : (o : Outcome Completion) → All (Keeps p q) (conclude m g rs o .references)
-        → All (λ x. Keys (x .place)) (keyPuts o)
-    put-keys (ended e) h = tt
-    put-keys (gave c) h = writes-keys (c .writes) (all-right (Keeps p q) rs (map entry (c .writes)) h)
-
--- ---- three lists of bytes, or of keys. a: the one guest's alone; b: the other's alone; c: both guests'
-
--- what the one may put has P, what the other may put has Q
-record Held (P Q : ℕ → Type 0) (a b c : List ℕ) : Type 0 where
-  first : length c ≡ length a
-  second : length c ≡ length b
-  mine : (x : ℕ) → (Q x → ⊥) → getD c x 0 ≡ getD a x 0
-  yours : (x : ℕ) → (P x → ⊥) → getD c x 0 ≡ getD b x 0
-
-held-start : (P Q : ℕ → Type 0) (s : List ℕ) → Held P Q s s s
-held-start P Q s = record { first = refl; second = refl; mine = λ x n. refl; yours = λ x n. refl }
-
-held-turned : (P Q : ℕ → Type 0) (a b c : List ℕ) → Held P Q a b c → Held Q P b a c
-held-turned P Q a b c t = record { first = t .second; second = t .first; mine = t .yours; yours = t .mine }
-
-held-puts : (P Q : ℕ → Type 0) (a b c : List ℕ) (xs : List Put) → All (λ x. P (x .place)) xs → Held P Q a b c
-    → Held P Q (puts a xs) b (puts c xs)
-held-puts P Q a b c xs h t = record {
-  first = length-puts c xs ∙ t .first ∙ sym (length-puts a xs);
-  second = length-puts c xs ∙ t .second;
-  mine = λ x n. puts-both a c xs x (t .first) (t .mine x n);
-  yours = λ x n. puts-other P c xs x h n ∙ t .yours x n;
-}
-
-record Together (p q : Part) (a b c : Machine) : Type 0 where
-  bytes : Held (Bytes p q) (Bytes q p) (a .storage) (b .storage) (c .storage)
-  keys : Held (Keys p q) (Keys q p) (a .keys) (b .keys) (c .keys)
-
-start : (p q : Part) (m : Machine) → Together p q m m m
-start p q m = record {
-  bytes = held-start (Bytes p q) (Bytes q p) (m .storage);
-  keys = held-start (Keys p q) (Keys q p) (m .keys);
-}
-
-turned : (p q : Part) (a b c : Machine) → Together p q a b c → Together q p b a c
-turned p q a b c t = record {
-  bytes = held-turned (Bytes p q) (Bytes q p) (a .storage) (b .storage) (c .storage) (t .bytes);
-  keys = held-turned (Keys p q) (Keys q p) (a .keys) (b .keys) (c .keys) (t .keys);
-}
-
 -- ---- one call
 
-module _ (p q : Part) (a b c : Machine) (t : Together p q a b c) where
+module _ (p q : Part) (wp : WholeBlocks p) (wq : WholeBlocks q) (a b c : Machine) (t : Together p q a b c) where
   concluded-together : (g : Guest) (rs : List Reference) (o : Outcome Completion)
       → All (Keeps p q) (conclude a g rs o .references)
       → Together p q (conclude a g rs o .after) b (conclude c g rs o .after)
   concluded-together g rs o h = record {
     bytes = rw (concluded-storage a g rs o, concluded-storage c g rs o)
-        (held-puts (Bytes p q) (Bytes q p) (a .storage) (b .storage) (c .storage) (storagePuts o)
+        (bytes-put (Bytes p q) (Bytes q p) (a .storage) (b .storage) (c .storage) (storagePuts o)
         (put-bytes p q a g rs o h) (t .bytes));
-    keys = rw (concluded-keys a g rs o, concluded-keys c g rs o)
-        (held-puts (Keys p q) (Keys q p) (a .keys) (b .keys) (c .keys) (keyPuts o) (put-keys p q a g rs o h) (t .keys));
+    keys =
+        let size = length (c .keys) in
+        keys-done p q (a .keys) (b .keys) (c .keys) (conclude a g rs o .after .keys) (conclude c g rs o .after .keys)
+        (λ k. touched k (conclude a g rs o .references)) (λ k. effect size k rs o)
+        (λ k. acts-effect p q wp wq size k a g rs o h) (concluded-length a g rs o) (concluded-length c g rs o)
+        (λ k. concluded-at a g rs o k ∙ ap (λ n. effect n k rs o (getD (a .keys) k 0)) (sym (t .keys .first)))
+        (concluded-at c g rs o) (t .keys);
   }
 
   same-key : (r : Reference) → Keeps p q r → SameKey (a .keys) (c .keys) r
   same-key (fetched x n) h = tt
-  same-key (consulted u k) h = ap (seenAs u) (t .keys .mine k (λ y. h .consults .keys .0 (y .0)))
+  same-key (consulted ForProtection k) h = t .keys .likeMine k (h .consults .keys .0) .left
+  same-key (consulted Whole k) h = t .keys .mine k (h .readsBit)
   same-key (wrote x n) h = tt
   same-key (keySet k) h = tt
 
@@ -180,8 +103,8 @@ module _ (p q : Part) (a b c : Machine) (t : Together p q a b c) where
     same-reading =
         ap (λ l. run (program l (length (c .keys)) x) c) (t .bytes .first)
         ∙ ap (λ l. run (program (length (a .storage)) l x) c) (t .keys .first)
-        ∙ local a c (record { storage = t .bytes .first; keys = t .keys .first })
-        (program (length (a .storage)) (length (a .keys)) x)
+        ∙ local (program (length (a .storage)) (length (a .keys)) x) a c
+        (record { storage = t .bytes .first; keys = t .keys .first })
         (all-map (Keeps p q) (Agree a c) agrees (reading a x .references)
         (reads (Keeps p q) (x .guest) (reading a x .references) (reading a x .outcome) h))
 
@@ -201,52 +124,80 @@ record Ends (p q : Part) (a b c : Machine) (us vs ws : List Call) (i : Interleav
   answered : answers c ws ≡ arrange i (answers a us) (answers b vs)
   together : Together p q (left a us) (left b vs) (left c ws)
 
-every : (p q : Part) (a b c : Machine) {us vs ws : List Call} (i : Interleaving us vs ws)
-    → Together p q a b c → All (Keeps p q) (references a us) → All (Keeps q p) (references b vs)
-    → Ends p q a b c us vs ws i
-every p q a b c over t h k = record { answered = refl; together = t }
-every p q a b c (one {c = x} {us = us} i) t h k =
+every : (p q : Part) → WholeBlocks p → WholeBlocks q → (a b c : Machine) {us vs ws : List Call}
+    (i : Interleaving us vs ws) → Together p q a b c → All (Keeps p q) (references a us)
+    → All (Keeps q p) (references b vs) → Ends p q a b c us vs ws i
+every p q wp wq a b c over t h k = record { answered = refl; together = t }
+every p q wp wq a b c (one {c = x} {us = us} i) t h k =
     let rs = attempt a x .references in
     let later = references (attempt a x .after) us in
     let now = all-left (Keeps p q) rs later h in
-    let r = every p q (attempt a x .after) b (attempt c x .after) i (call-together p q a b c t x now)
+    let r = every p q wp wq (attempt a x .after) b (attempt c x .after) i (call-together p q wp wq a b c t x now)
     (all-right (Keeps p q) rs later h) k in
-    record { answered = λ j. call-answer p q a b c t x now j ∷ r .answered j; together = r .together }
-every p q a b c (two {c = x} {vs = vs} i) t h k =
+    record { answered = λ j. call-answer p q wp wq a b c t x now j ∷ r .answered j; together = r .together }
+every p q wp wq a b c (two {c = x} {vs = vs} i) t h k =
     let rs = attempt b x .references in
     let later = references (attempt b x .after) vs in
     let now = all-left (Keeps q p) rs later k in
     let t′ = turned p q a b c t in
     let b′ = attempt b x .after in
     let c′ = attempt c x .after in
-    let r = every p q a b′ c′ i (turned q p b′ a c′ (call-together q p b a c t′ x now)) h
+    let r = every p q wp wq a b′ c′ i (turned q p b′ a c′ (call-together q p wq wp b a c t′ x now)) h
     (all-right (Keeps q p) rs later k) in
-    record { answered = λ j. call-answer q p b a c t′ x now j ∷ r .answered j; together = r .together }
+    record { answered = λ j. call-answer q p wq wp b a c t′ x now j ∷ r .answered j; together = r .together }
 
--- a list beside none: what it leaves outside its part
+-- ---- a list alone: its reference bits outside its part
+
+module _ (p q : Part) (wp : WholeBlocks p) (wq : WholeBlocks q) where
+  bit-alone : (m : Machine) (us : List Call) → All (Keeps p q) (references m us) → (k : ℕ) → (p .keys k → ⊥)
+      → ltb k (length (m .keys)) ≡ true
+      → isReferred (getD (left m us .keys) k 0) ≡ (isReferred (getD (m .keys) k 0) || touched k (references m us))
+  bit-alone m [] h k n l = sym (or-false (isReferred (getD (m .keys) k 0)))
+  bit-alone m (x ∷ us) h k n l =
+      let rs = attempt m x .references in
+      let m′ = attempt m x .after in
+      let later = references m′ us in
+      let made = reading m x .references in
+      let o = reading m x .outcome in
+      let old = isReferred (getD (m .keys) k 0) in
+      let size = concluded-length m (x .guest) made o in
+      let acts = acts-effect p q wp wq (length (m .keys)) k m (x .guest) made o (all-left (Keeps p q) rs later h) in
+      bit-alone m′ us (all-right (Keeps p q) rs later h) k n (subst (λ z. ltb k z ≡ true) (sym size) l)
+      ∙ ap (λ z. z || touched k later)
+      (ap isReferred (concluded-at m (x .guest) made o k) ∙ acts .referenceBit l n (getD (m .keys) k 0))
+      ∙ or-assoc old (touched k rs) (touched k later)
+      ∙ ap (λ z. old || z) (sym (touched-append k rs later))
+
+-- beside none: what a list leaves outside its part
 beside-none : (us : List Call) → Interleaving us [] us
 beside-none [] = over
 beside-none (c ∷ us) = one (beside-none us)
 
+joined : (x y z : Bool) → ((x || y) || (x || z)) ≡ ((x || y) || z)
+joined true y z = refl
+joined false y z = refl
+
 pub guests-isolated : GuestsIsolated
-guests-isolated p q m us vs ws order h k =
-    let e = every p q m m m order (start p q m) h k in
+guests-isolated p q wp wq m us vs ws order h k =
+    let e = every p q wp wq m m m order (start p q m) h k in
     let t = e .together in
-    let alone = every p q m m m (beside-none us) (start p q m) h tt .together in
+    let alone = every p q wp wq m m m (beside-none us) (start p q m) h tt .together in
     record {
       answer = e .answered;
-      first = record {
-        bytes = λ x y. t .bytes .mine x (λ z. z .1 y);
-        keys = λ x y. t .keys .mine x (λ z. z .1 y);
-      };
-      second = record {
-        bytes = λ x y. t .bytes .yours x (λ z. z .1 y);
-        keys = λ x y. t .keys .yours x (λ z. z .1 y);
-      };
-      rest = record {
-        bytes = λ x n. t .bytes .mine x (λ z. n .1 (z .0)) ∙ alone .bytes .yours x (λ z. n .0 (z .0));
-        keys = λ x n. t .keys .mine x (λ z. n .1 (z .0)) ∙ alone .keys .yours x (λ z. n .0 (z .0));
-      };
+      first = record { bytes = λ x y. t .bytes .mine x (λ z. z .1 y); keys = t .keys .mine };
+      second = record { bytes = λ x y. t .bytes .yours x (λ z. z .1 y); keys = t .keys .yours };
+      bytes = λ x n. t .bytes .mine x (λ z. n .1 (z .0)) ∙ alone .bytes .yours x (λ z. n .0 (z .0));
+      keys = λ x n.
+          same-trans (getD (m .keys) x 0) (getD (left m us .keys) x 0) (getD (left m ws .keys) x 0)
+          (alone .keys .likeYours x (n .0)) (t .keys .likeMine x (n .1));
+      referenceBit = λ x n l.
+          let there = lt-ltb x (length (m .keys)) l in
+          let size = t .keys .first ∙ alone .keys .second in
+          let old = isReferred (getD (m .keys) x 0) in
+          t .keys .referenceBit x (subst (λ z. ltb x z ≡ true) (sym size) there) (n .0) (n .1)
+          ∙ ap (λ z. z || isReferred (getD (left m vs .keys) x 0)) (bit-alone p q wp wq m us h x (n .0) there)
+          ∙ ap (λ z. (old || touched x (references m us)) || z) (bit-alone q p wq wp m vs k x (n .1) there)
+          ∙ joined old (touched x (references m us)) (touched x (references m vs));
       sizes = record {
         storage = t .bytes .first ∙ alone .bytes .second;
         keys = t .keys .first ∙ alone .keys .second;

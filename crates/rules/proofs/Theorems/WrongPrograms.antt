@@ -7,7 +7,8 @@ use mathlib.Core.List.{[], _∷_}
 use lib.ListN.{getD}
 use lib.Dec.{eqb}
 use borrow.Author.Tests.{eqb-true, eqb-false}
-use Rattle.rules.specs.Machine.{Machine, store}
+use Rattle.rules.specs.Machine.{Machine}
+use Rattle.rules.specs.Writes.{store}
 use Rattle.rules.specs.Endings.{Ending}
 use Rattle.rules.specs.Call.{Call}
 use Rattle.rules.specs.Theorems.Samples.{machineWith, guestWith, callOf, callWith, vpswAt, ec, bc}

@@ -1,7 +1,8 @@
 -- DEMAND 1. Every attempt, whatever the storage, keys, record and halfword, ends with a number of document 01's table,
 -- and with a code or step that its instruction can have; only codes 16 and 17 carry an address, of 24 bits. Every
--- ending but 0 leaves storage, keys and record as they were. Completion moves the instruction address on, and changes
--- nothing else in the record.
+-- ending but 0 leaves storage and record as they were, and the keys but for reference bits that were recorded: a bit
+-- that ends as one was one or belongs to a block that an entry of the list touched, exactly. Completion moves the
+-- instruction address on, and changes nothing else in the record.
 use Prim.Native.Nat.{ℕ, _<_, _^_}
 use mathlib.Core.Path.{_≡_}
 use mathlib.Core.Bool.{Bool, true, false, cond, _&&_, _||_}
@@ -12,6 +13,7 @@ use Rattle.rules.specs.Guest.{advance}
 use Rattle.rules.specs.Endings.{Ending, Numbers, numbers}
 use Rattle.rules.specs.Call.{Call, operation}
 use Rattle.rules.specs.Attempt.{Result, attempt}
+use Rattle.rules.specs.Theorems.ReferenceBits.{OnlyReferenced}
 
 -- a number of the table, and the codes or steps that it can carry
 pub record Line : Type 0 where
@@ -63,9 +65,15 @@ pub record Possible (operation : ℕ) (e : Ending) : Type 0 where
 abbrev pub instructionLength : (operation : ℕ) → ℕ
 instructionLength op = cond (eqb op 0x08) 2 4
 
+-- what an ending but 0 leaves
+pub record Untouched (m : Machine) (c : Call) (r : Result) : Type 0 where
+  pub guest : r .answer .guest ≡ c .guest
+  pub storage : r .after .storage ≡ m .storage
+  pub keys : OnlyReferenced (m .keys) (r .after .keys) (r .references)
+
 pub record Answered (m : Machine) (c : Call) (r : Result) : Type 0 where
   pub possible : Possible (operation c) (r .answer .ending)
-  pub untouched : (numbers (r .answer .ending) .number ≡ 0 → ⊥) → (r .after ≡ m) × (r .answer .guest ≡ c .guest)
+  pub untouched : (numbers (r .answer .ending) .number ≡ 0 → ⊥) → Untouched m c r
   pub advanced : numbers (r .answer .ending) .number ≡ 0
       → r .answer .guest ≡ advance (c .guest) (instructionLength (operation c))
 

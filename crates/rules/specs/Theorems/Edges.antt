@@ -3,34 +3,55 @@
 use Prim.Native.Nat.{ℕ}
 use mathlib.Core.Bool.{Bool, true, false}
 use mathlib.Core.List.{List, [], _∷_}
-use Rattle.rules.specs.Machine.{Machine, Write, store, setKey}
-use Rattle.rules.specs.Theorems.Samples.{Row, Hold, completes, endsWith, machineWith, callWith, vpswAt, ec, bc}
+use Rattle.rules.specs.Machine.{Machine}
+use Rattle.rules.specs.Writes.{Write, store}
+use Rattle.rules.specs.Theorems.Samples.{
+  Row,
+  Hold,
+  completes,
+  endsWith,
+  machineOf,
+  machineWith,
+  callWith,
+  vpswAt,
+  ec,
+  bc,
+}
 
 -- the virtual PSW and the operand byte
 abbrev masks : (pending : Bool) (first operand : ℕ) → Machine
 masks pending first operand = machineWith (vpswAt pending 0x18 ∷ store 0x18 2 first ∷ store 0x20 1 operand ∷ [])
 
--- A mask instruction that completes makes 9 references (SSM) or 7, and moves on from 1C to 20.
+-- A mask instruction that completes makes 9 references (SSM) or 7, and moves on from 1C to 20. All that it refers to is
+-- in block 0, whose key is then 06; where it ends otherwise, 04.
 abbrev ssm : (pending : Bool) (first operand : ℕ) → List Write → Row
-ssm pending first operand = completes (masks pending first operand) (callWith 0x8000 0 true) 9 0x20
+ssm pending first operand stores =
+    completes (masks pending first operand) (callWith 0x8000 0 true) 9 0x20 stores (0x06 ∷ 0x00 ∷ [])
 
 abbrev ssmEnds : (installed pending : Bool) (first operand number code : ℕ) → Row
 ssmEnds installed pending first operand number code =
-    endsWith (masks pending first operand) (callWith 0x8000 0 installed) number code 8
+    endsWith (masks pending first operand) (callWith 0x8000 0 installed) number code 8 (0x04 ∷ 0x00 ∷ [])
 
 abbrev storeThen : (instruction : ℕ) (pending : Bool) (first : ℕ) → List Write → Row
-storeThen instruction pending first = completes (masks pending first 0) (callWith instruction 0 true) 7 0x20
+storeThen instruction pending first stores =
+    completes (masks pending first 0) (callWith instruction 0 true) 7 0x20 stores (0x06 ∷ 0x00 ∷ [])
 
 abbrev storeThenEnds : (instruction : ℕ) (installed pending : Bool) (first number code : ℕ) → Row
 storeThenEnds instruction installed pending first number code =
-    endsWith (masks pending first 0) (callWith instruction 0 installed) number code 2
+    endsWith (masks pending first 0) (callWith instruction 0 installed) number code 2 (0x04 ∷ 0x00 ∷ [])
 
 -- STCTL of n registers makes 3 references and 3 for each register.
 abbrev stctl : (instruction count : ℕ) → List Write → Row
-stctl instruction count = completes (machineWith []) (callWith instruction 0 true) count 0x20
+stctl instruction count stores =
+    completes (machineWith []) (callWith instruction 0 true) count 0x20 stores (0x06 ∷ 0x00 ∷ [])
 
-abbrev ssk : (address : ℕ) → List Write → Row
-ssk address = completes (machineWith []) (callWith 0x0812 address true) 8 0x1e
+-- SSK, R1 low byte 3F: a machine, the address in R2, the word stored in the swap table, and where; all keys afterwards
+abbrev ssk : Machine → (address swapWord at : ℕ) (keys : List ℕ) → Row
+ssk m address swapWord at keys = completes m (callWith 0x0812 address true) 8 0x1e (store at 4 swapWord ∷ []) keys
+
+-- document 01's: the page is in frame 1, blocks 2 and 3, and the tables are in block 0
+abbrev pageApart : (keys : List ℕ) → Machine
+pageApart keys = machineOf 8192 keys (store 0xd0 2 0x0010 ∷ [])
 
 abbrev pub edges : List Row
 edges =
@@ -66,11 +87,34 @@ edges =
     ∷ storeThen 0xad03 true (ec 0x07) (store 0x20 1 0x07 ∷ store 0x18 1 0x07 ∷ [])
     ∷ storeThen 0xad03 true (bc 0x07) (store 0x20 1 0x07 ∷ store 0x18 1 0x07 ∷ [])
     -- SSK, R1 low byte 3F, swap word 0, old key 04, valid page: key 38; bit 20 zero: word 08003E00
-    ∷ ssk 0x000000 (setKey 0 0x38 ∷ store 0xe0 4 0x08003e00 ∷ [])
+    ∷ ssk (pageApart (0x00 ∷ 0x00 ∷ 0x04 ∷ 0x00 ∷ [])) 0x000000 0x08003e00 0xe0 (0x06 ∷ 0x00 ∷ 0x38 ∷ 0x00 ∷ [])
     -- bit 20 one: 0200003E
-    ∷ ssk 0x000800 (setKey 1 0x38 ∷ store 0xe0 4 0x0200003e ∷ [])
+    ∷ ssk (pageApart (0x00 ∷ 0x00 ∷ 0x00 ∷ 0x04 ∷ [])) 0x000800 0x0200003e 0xe0 (0x06 ∷ 0x00 ∷ 0x00 ∷ 0x38 ∷ [])
+    ∷ []
+
+-- Edges of recording, which are ours (document 02, R-13). All keys are 00 at first.
+abbrev pub recordingEdges : List Row
+recordingEdges =
+    -- SSK, the tables in the page's own block: the key read has the reference bit that they recorded (word 08003E00),
+    -- and the swap word's store records after the key was set (38)
+    ssk (machineWith []) 0x000000 0x08003e00 0xe0 (0x3e ∷ 0x00 ∷ [])
+    -- the swap word at 7FE, across the boundary into the page's block, and stored there too
+    ∷ ssk (machineWith (store 0xcc 4 0x7fe ∷ [])) 0x000800 0x0200003e 0x7fe (0x06 ∷ 0x3e ∷ [])
+    -- STCTL, register 15 at 7FE, across the boundary
+    ∷ completes (machineWith (store 0x0c 4 0x7c2 ∷ store 0x7fe 4 0x10 ∷ [])) (callWith 0xb6ff 0 true) 6 0x20
+    (store 0x20 4 0x10 ∷ []) (0x06 ∷ 0x04 ∷ [])
+    -- STCTL, two words at FFC, the second not in storage: the first one's test records nothing in its block
+    ∷ endsWith (machineWith (store 0x1e 2 0x0ffc ∷ [])) (callWith 0xb601 0 true) 1 5 6 (0x04 ∷ 0x00 ∷ [])
+    -- STNSM, EC, old 07, AND F8: refused after two fetches, whose reference bits stay
+    ∷ endsWith (machineWith (vpswAt false 0x800 ∷ store 0x800 2 (ec 0x07) ∷ [])) (callWith 0xacf8 0 false) 1 2 2
+    (0x04 ∷ 0x04 ∷ [])
+    -- the virtual PSW at FFF, partly not in storage: nothing is recorded of it
+    ∷ endsWith (machineWith (vpswAt false 0xfff ∷ [])) (callWith 0xacf8 0 false) 3 3 1 (0x04 ∷ 0x00 ∷ [])
     ∷ []
 
 -- Every row gives what document 01 says: the ending, the count, the next address, and every byte and key.
 abbrev pub EdgesHold : Type 0
 EdgesHold = Hold edges
+
+abbrev pub RecordingEdgesHold : Type 0
+RecordingEdgesHold = Hold recordingEdges

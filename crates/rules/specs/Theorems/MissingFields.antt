@@ -1,46 +1,52 @@
 -- Ending 3 at each control field of each instruction, and at SSK's key block: the step that it carries, and the count
--- before it.
+-- before it, and the keys.
 -- One table, under one statement. Storage ends at 1000.
 use Prim.Native.Nat.{ℕ}
 use mathlib.Core.Bool.{true}
 use mathlib.Core.List.{List, [], _∷_}
-use Rattle.rules.specs.Machine.{Write, store}
+use Rattle.rules.specs.Writes.{Write, store}
 use Rattle.rules.specs.Theorems.Samples.{Row, Hold, endsWith, machineWith, guestWith, callOf, callWith}
 
--- a MICBLOK at another address
-abbrev micblokAt : (micblok first step count : ℕ) → List Write → Row
-micblokAt micblok first step count own =
-    endsWith (machineWith own) (callOf (guestWith 0x1c 0 micblok) first true) 3 step count
+-- a MICBLOK past the end of storage: nothing is referred to, so nothing recorded
+abbrev noMicblok : (first : ℕ) → Row
+noMicblok first =
+    endsWith (machineWith []) (callOf (guestWith 0x1c 0 0x80001000) first true) 3 2 0 (0x00 ∷ 0x00 ∷ [])
 
--- the sample machine, but for a few words
+-- the sample machine, but for a few words: what is found before the missing field is in block 0
 abbrev fieldAt : (first step count : ℕ) → List Write → Row
-fieldAt first step count own = endsWith (machineWith own) (callWith first 0 true) 3 step count
+fieldAt first step count own =
+    endsWith (machineWith own) (callWith first 0 true) 3 step count (0x04 ∷ 0x00 ∷ [])
+
+-- and where some of it is in block 1
+abbrev fieldAfterBoth : (micblok first step count : ℕ) → List Write → Row
+fieldAfterBoth micblok first step count own =
+    endsWith (machineWith own) (callOf (guestWith 0x1c 0 micblok) first true) 3 step count (0x04 ∷ 0x04 ∷ [])
 
 abbrev pub missingFields : List Row
 missingFields =
     -- SSM: MICCREG, with MICBLOK past the end; virtual control register 0, past the end and partly so
-    micblokAt 0x80001000 0x8000 2 0 []
+    noMicblok 0x8000
     ∷ fieldAt 0x8000 3 1 (store 0x0c 4 0x1000 ∷ [])
     ∷ fieldAt 0x8000 3 1 (store 0x0c 4 0x0ffd ∷ [])
     -- MICVPSW, with MICBLOK at the last eight bytes; the virtual PSW, past the end and partly so
-    ∷ micblokAt 0x80000ff8 0x8000 7 6 (store 0xffc 4 0x60 ∷ [])
+    ∷ fieldAfterBoth 0x80000ff8 0x8000 7 6 (store 0xffc 4 0x60 ∷ [])
     ∷ fieldAt 0x8000 8 7 (store 0x10 4 0x1000 ∷ [])
     ∷ fieldAt 0x8000 8 7 (store 0x10 4 0x0fff ∷ [])
     -- STCTL: MICCREG; registers 0 to 14 in storage, and register 15 not
-    ∷ micblokAt 0x80001000 0xb60f 2 0 []
-    ∷ fieldAt 0xb60f 5 18 (store 0x0c 4 0x0fc4 ∷ [])
+    ∷ noMicblok 0xb60f
+    ∷ fieldAfterBoth 0x80000008 0xb60f 5 18 (store 0x0c 4 0x0fc4 ∷ [])
     -- STNSM and STOSM: MICVPSW; the virtual PSW
-    ∷ micblokAt 0x80001000 0xac00 2 0 []
+    ∷ noMicblok 0xac00
     ∷ fieldAt 0xac00 3 1 (store 0x10 4 0x0fff ∷ [])
-    ∷ micblokAt 0x80001000 0xad00 2 0 []
+    ∷ noMicblok 0xad00
     ∷ fieldAt 0xad00 3 1 (store 0x10 4 0x0fff ∷ [])
     -- SSK: MICRSEG; the segment entry; the swap-table address, before a page table at 000000; the swap word;
     -- the page entry, with the page table at the end of storage; the key block, of frame 0FF
-    ∷ micblokAt 0x80001000 0x0812 2 0 []
+    ∷ noMicblok 0x0812
     ∷ fieldAt 0x0812 5 1 (store 0x08 4 0x1000 ∷ [])
     ∷ fieldAt 0x0812 7 2 (store 0xc0 4 0x0000 ∷ [])
     ∷ fieldAt 0x0812 8 3 (store 0xcc 4 0x0ffd ∷ [])
-    ∷ fieldAt 0x0812 9 4 (store 0xc0 4 0x1000 ∷ store 0xffc 4 0xe0 ∷ [])
+    ∷ fieldAfterBoth 0x80000008 0x0812 9 4 (store 0xc0 4 0x1000 ∷ store 0xffc 4 0xe0 ∷ [])
     ∷ fieldAt 0x0812 11 5 (store 0xd0 2 0x0ff0 ∷ [])
     ∷ []
 

@@ -4,7 +4,8 @@ use mathlib.Core.Bool.{Bool, cond}
 use mathlib.Core.Path.{_≡_}
 use mathlib.Core.List.{List, [], _∷_, _++_, map}
 use lib.ListN.{replicate}
-use Rattle.rules.specs.Machine.{Machine, Write, store, performAll}
+use Rattle.rules.specs.Machine.{Machine}
+use Rattle.rules.specs.Writes.{Write, store, put}
 use Rattle.rules.specs.Guest.{Guest, instructionAddress}
 use Rattle.rules.specs.Endings.{Numbers, numbers}
 use Rattle.rules.specs.Call.{Call}
@@ -15,11 +16,15 @@ abbrev registersFrom : (at r n : ℕ) → List Write
 registersFrom at r zero = []
 registersFrom at r (suc n) = store at 4 (r + 1) ∷ registersFrom (at + 4) (r + 1) n
 
--- Two blocks, each with key 04. MICBLOK at 08; the virtual PSW at 18; an instruction at 1C, whose second halfword names
--- the operand at 20; ECBLOK at 60; a segment table at C0, a page table at D0, a swap table at E0, all for frame 0.
--- Then what a case has of its own.
-abbrev pub machineWith : List Write → Machine
-machineWith own = performAll (record { storage = replicate 4096 0; keys = 0x04 ∷ 0x04 ∷ [] })
+-- a machine that holds what some writes put there (nothing is recorded)
+abbrev pub holding : Machine → List Write → Machine
+holding m [] = m
+holding m (w ∷ ws) = holding (put m w) ws
+
+-- MICBLOK at 08; the virtual PSW at 18; an instruction at 1C, whose second halfword names the operand at 20; ECBLOK at
+-- 60; a segment table at C0, a page table at D0, a swap table at E0, all for frame 0. Then what a case has of its own.
+abbrev pub machineOf : (bytes : ℕ) (keys : List ℕ) → List Write → Machine
+machineOf bytes keys own = holding (record { storage = replicate bytes 0; keys = keys })
     (store 0x08 4 0xc0
     ∷ store 0x0c 4 0x60
     ∷ store 0x10 4 0x18
@@ -27,6 +32,10 @@ machineWith own = performAll (record { storage = replicate 4096 0; keys = 0x04 �
     ∷ store 0xc0 4 0xd0
     ∷ store 0xcc 4 0xe0
     ∷ registersFrom 0x60 0 16 ++ own)
+
+-- in two blocks, each with key 00
+abbrev pub machineWith : List Write → Machine
+machineWith = machineOf 4096 (0x00 ∷ 0x00 ∷ [])
 
 -- The EC mode and the problem state, key zero, the instruction at an address; general register 1 holds 3F, and general
 -- register 2 an address.
@@ -82,28 +91,28 @@ pub record Row : Type 0 where
 abbrev pub Hold : List Row → Type 0
 Hold rows = map (λ r. compared (attempt (r .machine) (r .call))) rows ≡ map (λ r. r .gives) rows
 
--- a row that completes with these writes
-abbrev pub completes : Machine → Call → (count next : ℕ) → List Write → Row
-completes m c count next writes = record {
+-- a row that completes: what is put in storage, and all keys afterwards
+abbrev pub completes : Machine → Call → (count next : ℕ) → (stores : List Write) (keys : List ℕ) → Row
+completes m c count next stores keys = record {
   machine = m;
   call = c;
   gives = record {
     ending = record { number = 0; code = 0; address = 0 };
     count = count;
     next = next;
-    after = performAll m writes;
+    after = record { storage = holding m stores .storage; keys = keys };
   };
 }
 
--- a row that ends otherwise, and leaves all as it was
-abbrev pub endsWith : Machine → Call → (number code count : ℕ) → Row
-endsWith m c number code count = record {
+-- a row that ends otherwise, and leaves storage as it was: all keys afterwards
+abbrev pub endsWith : Machine → Call → (number code count : ℕ) → (keys : List ℕ) → Row
+endsWith m c number code count keys = record {
   machine = m;
   call = c;
   gives = record {
     ending = record { number = number; code = code; address = 0 };
     count = count;
     next = instructionAddress (c .guest);
-    after = m;
+    after = record { storage = m .storage; keys = keys };
   };
 }

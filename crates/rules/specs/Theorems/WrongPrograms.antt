@@ -6,8 +6,10 @@ use mathlib.Core.Bool.{not, _&&_}
 use mathlib.Core.List.{List, [], _∷_, _++_}
 use lib.ListN.{length}
 use lib.Dec.{eqb}
-use Rattle.rules.specs.Machine.{Machine, _⊕_, store, perform}
+use Rattle.rules.specs.Machine.{Machine, _⊕_}
+use Rattle.rules.specs.Writes.{store, perform}
 use Rattle.rules.specs.References.{Reference, wrote}
+use Rattle.rules.specs.Recording.{notedAll}
 use Rattle.rules.specs.Guest.{assistsControl, effective, advance}
 use Rattle.rules.specs.Endings.{Ending, Completed, refuse}
 use Rattle.rules.specs.Steps.{Steps, done, branch, _>>=_, _>>_, stopIf, endingAs}
@@ -66,10 +68,10 @@ storeEach c rs address [] m = answered Completed (advance (c .guest) 4) rs m
 storeEach c rs address (value ∷ values) m =
     let test = run (storeTest (c .guest) address) m in
     elim (test .outcome) [
-      | ended e ↦ answered e (c .guest) (rs ++ test .references) m
+      | ended e ↦ answered e (c .guest) (rs ++ test .references) (notedAll m (test .references))
       | gave real ↦
           let made = rs ++ test .references ++ wrote real 4 ∷ [] in
-          storeEach c made (address ⊕ 4) values (perform m (store real 4 value))
+          storeEach c made (address ⊕ 4) values (perform (notedAll m (test .references)) (store real 4 value))
     ]
 
 pub record Operand : Type 0 where
@@ -90,8 +92,9 @@ unfoldable pub storeEarly : Program
 storeEarly m c =
     let r = run (admittedOn m registersToStore c) m in
     elim (r .outcome) [
-      | ended e ↦ answered e (c .guest) (r .references) m
-      | gave operand ↦ storeEach c (r .references) (operand .address) (operand .values) m
+      | ended e ↦ answered e (c .guest) (r .references) (notedAll m (r .references))
+      | gave operand ↦
+          storeEach c (r .references) (operand .address) (operand .values) (notedAll m (r .references))
     ]
 
 unfoldable pub storedBeforeTested : Program

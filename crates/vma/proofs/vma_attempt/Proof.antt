@@ -1,12 +1,15 @@
-use Prim.Native.Nat.{_%_, _^_, _≤_}
+use Prim.Native.Nat.{ℕ, _%_, _^_, _≤_}
 use native.Mathlib.Omega.{arith}
-use mathlib.Core.Path.{_≡_, ap, _∙_, subst}
+use mathlib.Core.Path.{_≡_, sym, ap, _∙_, subst}
+use mathlib.Core.List.{List}
 use lib.ListN.{length, set}
 use Rattle.rules.specs.declared.call.Call.{Call}
 use Rattle.rules.specs.Machine.{Machine}
 use Rattle.rules.specs.Endings.{numbers}
 use Rattle.rules.specs.Call.{operation}
-use Rattle.rules.specs.Theorems.Answers.{instructionLength}
+use Rattle.rules.specs.Attempt.{Result}
+use Rattle.rules.specs.Theorems.Answers.{instructionLength, Untouched}
+use Rattle.rules.specs.Theorems.ReferenceBits.{OnlyReferenced}
 use Rattle.rules.proofs.Theorems.Answers.{every-call-answered}
 use Rattle.assist.specs.Attempted.{attempted}
 use Rattle.vma.specs.Words.{guestOf, wordsOf}
@@ -18,6 +21,10 @@ use Rattle.vma.proofs.Inverse.{packing-inverse}
 use borrow.Author.Needs.{needs}
 use Rattle.vma.proofs.vma_attempt.Statement.{statement}
 use Rattle.vma.proofs.vma_attempt.Tie as tie
+
+only-referenced : {m : Machine} {call : Call} {r : Result} {keys : List ℕ} → keys ≡ r .after .keys → Untouched m call r
+    → OnlyReferenced (m .keys) keys (r .references)
+only-referenced {m} {r = r} same u = subst (λ ks. OnlyReferenced (m .keys) ks (r .references)) (sym same) (u .keys)
 
 returns : tie.Need-returns
 unfolding attempted
@@ -55,11 +62,25 @@ returns c =
     let next = at-attempt .attempt .result .guest in
     let words = ap (λ x. set w 1 (x .guest .psw % 2 ^ 32)) answer
     ∙ handed-words w (typed .0) (typed .1) (typed .2) (n .number) (instructionLength (operation call))
-    (r .answer .guest) (λ e. demand .untouched e .1) (demand .advanced) in
+    (r .answer .guest) (λ e. demand .untouched e .guest) (demand .advanced) in
     let kept = packing-inverse .words w (typed .0) (typed .1) (typed .2) in
-    let untouched : (numbersIn (c .pack .result) .number ≡ 0 → ⊥) → set w 1 (next .psw % 2 ^ 32) ≡ w =
-    λ e. words ∙ ap wordsOf (demand .untouched (λ z. e (ap (λ x. x .number) parts ∙ z)) .1) ∙ kept in
-    (result, (parts, (ap countIn result ∙ apart .1, (words, (untouched, (storage, keys))))))
+    let ended : (numbersIn (c .pack .result) .number ≡ 0 → ⊥) → Untouched m call r =
+    λ e. demand .untouched (λ z. e (ap (λ x. x .number) parts ∙ z)) in (
+      result,
+      (
+        parts,
+        (
+          ap countIn result ∙ apart .1,
+          (
+            words,
+            (
+              λ e. (words ∙ ap wordsOf (ended e .guest) ∙ kept, storage ∙ ended e .storage),
+              (λ e. only-referenced keys (ended e), (storage, keys)),
+            ),
+          ),
+        ),
+      ),
+    )
 
 pub vma-attempt-spec : {M : Type 1} → statement M
 vma-attempt-spec =

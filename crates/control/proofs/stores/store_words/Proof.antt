@@ -1,7 +1,7 @@
 use Prim.Native.Nat.{_-_, _≤_}
 use mathlib.Core.Path.{_≡_, refl, _∙_}
 use lib.ListN.{length, take, drop, length-take, drop-of-length-le}
-use Rattle.rules.specs.Machine.{performAll}
+use Rattle.rules.specs.Writes.{performAll}
 use Rattle.rules.specs.StoreControl.{wordStores}
 use Rattle.storage.specs.Answers.{machine}
 use Rattle.control.proofs.Words.{word-turn}

@@ -1,6 +1,7 @@
 use mathlib.Core.Path.{_≡_, ap, _∙_}
 use mathlib.Core.Bool.{not}
-use Rattle.rules.specs.Machine.{Machine, perform, store}
+use Rattle.rules.specs.Machine.{Machine}
+use Rattle.rules.specs.Writes.{perform, store}
 use Rattle.rules.specs.Steps.{Steps}
 use Rattle.rules.specs.Masks.{maskIn}
 use Rattle.rules.specs.ControlFields.{addressIn}
@@ -171,6 +172,7 @@ unfolding storeThen assisted field halfword first expands operand real
 returns-6 c =
     let put = c .before .before .before .before .before in
     let here = real (stored put) in
+    let found = stored put .before .before .before .before in
     let a = here .start .args in
     let call = stored put .before .before .before .before .before .before .before .before .before in
     let mask = call .before .before .before .before .before .before .before in
@@ -181,7 +183,9 @@ returns-6 c =
     completes (a .call) (c .completed .result) (put .put-mask .last .0) (put .put-mask .last .1 .0) 4 _ (here .runs)
     (c .completed .ensures)
     (simp (changed mask, at .address-in .ensures) at (put .put-mask .ensures)
-    ∙ ap (λ m. perform m new) (simp (old .mask-in .ensures .0) at (stored put .store-byte .ensures)))
+    ∙ ap (λ m. perform m new)
+    (stored put .store-byte .ensures
+    ∙ ap (λ v. perform (here .left) (store (found .operand .given .0 .0) 1 v)) (old .mask-in .ensures .0)))
 
 pub store-then-spec : {M : Type 1} → statement M
 store-then-spec =

@@ -1,6 +1,7 @@
 use mathlib.Core.Path.{ap, _∙_}
 use Rattle.rules.specs.Bits.{bits, bit}
-use Rattle.rules.specs.Machine.{Machine, perform, store}
+use Rattle.rules.specs.Machine.{Machine}
+use Rattle.rules.specs.Writes.{perform, store}
 use Rattle.rules.specs.Steps.{Steps}
 use Rattle.rules.specs.Call.{Completion}
 use Rattle.rules.specs.SetStorageKey.{keyWord, addressWord, swapWith, storeSwapWord, setBlockKey}

@@ -112,6 +112,22 @@ pub fn logical_fetch(
     storage::fetch(storage, keys, width, real, outside).after(count)
 }
 
+// The same for a halfword. It is a function of its own, so that in each of the two the width is a constant, with which
+// the compiler puts the fetch there.
+fn logical_halfword(storage: &[u8], keys: &mut [u8], guest: Guest, at: u32) -> Stepped
+    ensures { λ r. ⌜
+        told r (now (storage .entry)) (now (keys .exit))
+        ≡ seen (logicalFetch guest at 2) (machine (now (storage .entry)) (now (keys .entry)))
+        ⌝ }
+{
+    let tested = fetch_test(storage, keys, guest, at);
+    let Stepped::Value(real, count) = tested else {
+        return tested;
+    };
+    let outside = Ending::Interruption(Exception::Addressing);
+    storage::fetch(storage, keys, Width::Halfword, real, outside).after(count)
+}
+
 // The second halfword of the instruction.
 pub fn second_halfword(storage: &[u8], keys: &mut [u8], guest: Guest) -> Stepped
     ensures { λ r. ⌜
@@ -120,5 +136,5 @@ pub fn second_halfword(storage: &[u8], keys: &mut [u8], guest: Guest) -> Stepped
         ⌝ }
 {
     let at = rules::sum(guest.instruction_address(), 2);
-    logical_fetch(storage, keys, guest, Width::Halfword, at)
+    logical_halfword(storage, keys, guest, at)
 }

@@ -15,7 +15,7 @@ implied false true h = sym (h refl)
 implied false false h = refl
 
 -- LastByteDecides for n + 1 bytes
-pub last-of : (n size a : ℕ) → a + n < 2 ^ 24 → ltb (a + n) size ≡ has size a (suc n)
+last-of : (n size a : ℕ) → a + n < 2 ^ 24 → ltb (a + n) size ≡ has size a (suc n)
 last-of zero size a h =
     let e : a + 0 ≡ a = omega arith in
     ap (λ b. ltb b size) e ∙ step (ltb a size)

@@ -1,4 +1,4 @@
--- The bytes of an item that does not go round the top of storage, in a longer list.
+-- The four bytes of a word that does not go round the top of storage, in a longer list.
 use Prim.Native.Nat.{ℕ, zero, suc, _+_, _-_, _*_, _%_, _^_, _<_, _≤_}
 use native.Mathlib.Omega.{arith}
 use mathlib.Core.Path.{_≡_, refl, sym, ap, _∙_}
@@ -10,7 +10,7 @@ use lib.Dec.{ltb}
 use borrow.Author.Tests.{lt-ltb, le-ltb}
 use Rattle.rules.specs.Machine.{addresses, value, stored}
 use Rattle.storage.specs.Items.{itemAt, wordBytes}
-use Rattle.storage.proofs.Theorems.{last-of}
+use Rattle.storage.proofs.Theorems.{last-byte-decides}
 
 -- four stores one after the other put their bytes between what stands before and after them
 between : (s : List ℕ) (a x y z w : ℕ) → a + 4 ≤ length s
@@ -33,25 +33,20 @@ in-place s a v h k =
     let four : a + 4 ≡ suc (suc (suc (suc a))) = omega arith in
     simp (one, two, three, four) (between s a _ _ _ _ h)
 
--- an item's fetch, which tests its last byte alone
-module _ (n : ℕ) (s : List ℕ) (a : ℕ) (k : a + n < 2 ^ 24) where
-  by-last-byte : {b : Bool} → ltb (a + n) (length s) ≡ b
-      → itemAt s a (suc n) ≡ cond b (some (value s a (suc n))) none
+-- a word's fetch, which tests its last byte alone
+module _ (s : List ℕ) (a : ℕ) (k : a ≤ 2 ^ 24 - 4) where
+  by-last-byte : {b : Bool} → ltb (a + 3) (length s) ≡ b → itemAt s a 4 ≡ cond b (some (value s a 4)) none
   unfolding itemAt
-  by-last-byte t = ap (λ b. cond b (some (value s a (suc n))) none) (sym (last-of n (length s) a k) ∙ t)
+  by-last-byte t = ap (λ b. cond b (some (value s a 4)) none) (sym (last-byte-decides (length s) a k) ∙ t)
 
-  there : a + n < length s → itemAt s a (suc n) ≡ some (value s a (suc n))
-  there h = by-last-byte (lt-ltb (a + n) (length s) h)
-
-  pub missing : length s ≤ a + n → itemAt s a (suc n) ≡ none
-  missing h = by-last-byte (le-ltb (a + n) (length s) h)
-
-module _ (s : List ℕ) (a : ℕ) where
-  pub word-there : a ≤ 2 ^ 24 - 4 → a + 3 < length s
+  pub word-there : a + 3 < length s
       → itemAt s a 4
       ≡ some (getD s a 0 * 16777216 + getD s (a + 1) 0 * 65536 + getD s (a + 2) 0 * 256 + getD s (a + 3) 0)
-  word-there k h =
+  word-there h =
       let one : (a + 1) % 16777216 ≡ a + 1 = omega arith in
       let two : (a + 1 + 1) % 16777216 ≡ a + 2 = omega arith in
       let three : (a + 2 + 1) % 16777216 ≡ a + 3 = omega arith in
-      there 3 s a (omega arith) h ∙ simp (one, two, three) (ap some (omega arith))
+      by-last-byte (lt-ltb (a + 3) (length s) h) ∙ simp (one, two, three) (ap some (omega arith))
+
+  pub word-missing : length s ≤ a + 3 → itemAt s a 4 ≡ none
+  word-missing h = by-last-byte (le-ltb (a + 3) (length s) h)

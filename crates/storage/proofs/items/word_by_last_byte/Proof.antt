@@ -1,6 +1,6 @@
 use native.Mathlib.Omega.{arith}
 use mathlib.Core.Path.{sym}
-use Rattle.storage.proofs.Words.{word-there, missing}
+use Rattle.storage.proofs.Words.{word-there, word-missing}
 use borrow.Author.Needs.{needs}
 use Rattle.storage.proofs.items.word_by_last_byte.Statement.{statement}
 use Rattle.storage.proofs.items.word_by_last_byte.Tie as tie
@@ -27,7 +27,7 @@ returns-2 c =
     let start = c .before .before in
     let below-top = start .pre in
     let tested = c .if1 .left in
-    sym (missing 3 (start .args .storage .now) (start .args .at) (omega arith) (omega arith))
+    sym (word-missing (start .args .storage .now) (start .args .at) (omega arith) (omega arith))
 
 pub word-by-last-byte-spec : {M : Type 1} → statement M
 word-by-last-byte-spec =

@@ -8,7 +8,7 @@ use lib.ListN.{length, getD, length-set}
 use lib.Dec.{ltb, eqb}
 use borrow.Author.Tests.{eqb-true}
 use Rattle.rules.specs.Machine.{Machine, addresses}
-use Rattle.rules.specs.References.{Reference, fetched, consulted, wrote, keySet, bytesOf}
+use Rattle.rules.specs.References.{Reference, fetched, consulted, wrote, keySet}
 use Rattle.rules.specs.Recording.{referred, changed, notedAll}
 use Rattle.rules.specs.Writes.{Write, store, setKey, entry, put, perform, performAll}
 use Rattle.rules.specs.Guest.{Guest}

@@ -11,7 +11,7 @@ use Rattle.rules.specs.References.{fetched}
 use Rattle.rules.specs.Recording.{recorded, noted, notedAll}
 use Rattle.rules.specs.Steps.{done, fetchBytes}
 use Rattle.rules.specs.Run.{View, item, run}
-use Rattle.storage.specs.Items.{Item, Of, Missing, found, itemAt}
+use Rattle.storage.specs.Items.{Of, Missing, itemAt}
 use Rattle.storage.specs.Answers.{machine, went, over, told, seen, fetchedAs}
 
 -- what was found, and the machine where it was there; else the machine as it was

@@ -1,7 +1,7 @@
 // Recording: an access sets the reference bit, or the reference and change bits, in the key of every block that it
 // touches.
 ghost use mathlib.Core.Path.{_≡_};
-ghost use Prim.Native.Nat.{_/_, _<_};
+ghost use Prim.Native.Nat.{_/_};
 ghost use lib.ListN.{getD, set};
 ghost use Rattle.rules.specs.Machine.{addresses};
 ghost use Rattle.rules.specs.Recording.{marked};

@@ -37,7 +37,7 @@ enum {
     VMA_PSW_0_31 = 0,        /* real PSW, bits 0-31 */
     VMA_PSW_32_63 = 1,       /* real PSW, bits 32-63; bits 40-63 are bits 8-31 of this word */
     VMA_GENERAL = 2,         /* general register r is word VMA_GENERAL + r */
-    VMA_CONTROL_0 = 18,      /* real control register 0 */
+    VMA_CONTROL_0 = 18,      /* real control register 0: bit 3 is low-address protection, bits 8-12 the format */
     VMA_CONTROL_1 = 19,      /* real control register 1 */
     VMA_CONTROL_6 = 20,      /* real control register 6: bits 0-7 control the assist, bits 8-28 are MICBLOK's address */
     VMA_GUEST_WORDS = 21
@@ -89,7 +89,7 @@ enum {
 /* The interruption codes. */
 enum {
     VMA_PRIVILEGED_OPERATION = 2, /* also: the assist leaves the instruction to the control program */
-    VMA_PROTECTION = 4,
+    VMA_PROTECTION = 4, /* by the key; or an operand store at logical address 0 to 511, control register 0 bit 3 one */
     VMA_ADDRESSING = 5,
     VMA_SEGMENT_TRANSLATION = 16,     /* vma_address is the logical address */
     VMA_PAGE_TRANSLATION = 17,        /* vma_address is the logical address */

@@ -1,5 +1,5 @@
-//! `vma demo`: the edges of document 01, and those of recording, through the library, and whether the second
-//! program says the same.
+//! `vma demo`: the edges of document 01, those of recording and those of low-address protection, through the
+//! library, and whether the second program says the same.
 
 use std::ffi::OsString;
 
@@ -17,10 +17,10 @@ pub const COMMAND: Command = Command { name: "demo", help: HELP, action: Action:
 const HELP: &str = "usage: vma demo
 
 Runs the edges of document 01 (section \"Edges to show\"), its wrong turns, and the edges of reference and
-change recording (document 02, R-13) through the proved library, and prints for each what comes of it: the
-ending, the count of references, the next instruction address, and the bytes and keys that changed, old ->
-new. (*) marks the edges that are also proved, as one table. Addresses, bytes and keys are hex; endings, codes,
-steps, counts and block numbers are decimal.
+change recording and of low-address protection (document 02, R-13 and R-6) through the proved library, and
+prints for each what comes of it: the ending, the count of references, the next instruction address, and the
+bytes and keys that changed, old -> new. (*) marks the edges that are also proved, as one table. Addresses,
+bytes and keys are hex; endings, codes, steps, counts and block numbers are decimal.
 
 Each answer is compared with the second program's: its numbers, the record, every byte and every key. If one
 differs, it is said where, and the status is 1.

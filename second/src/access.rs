@@ -1,4 +1,4 @@
-//! Logical accesses: translation, storage bounds, protection, then the fetch.
+//! Logical accesses: low-address protection (stores), translation, storage bounds, protection, then the fetch.
 
 use crate::address::add;
 use crate::bits::word_bits;
@@ -34,14 +34,24 @@ pub fn fetch_operand_byte(
     fetch(machine, guest, ReferenceKind::OperandByte, logical).map(u8::from_be_bytes)
 }
 
+/// Logical addresses below this are those that low-address protection is for.
+const LOW_ADDRESSES: u32 = 512;
+
 /// Test an item of N bytes at a logical address for store access; gives the real address. The test records what it
 /// fetches from tables, and nothing in the blocks of the item.
+///
+/// Low-address protection (document 02, R-6) is tested here and nowhere else: before translation, so that no entry is
+/// made for the item, and whatever the PSW key is. An operand word is on its boundary, so its first byte decides.
 #[inline]
 pub fn test_store<const N: usize>(
     machine: &mut Machine<impl References>,
     guest: &Guest,
     logical: u32,
 ) -> Result<u32, Exception> {
+    if guest.low_address_protection() && logical < LOW_ADDRESSES {
+        machine.walk_step = 9;
+        return Err(Exception::Protection);
+    }
     test::<N>(machine, guest, logical, Access::Store)
 }
 

@@ -47,6 +47,12 @@ impl Guest {
         word_bit(self.psw_0_31, 15)
     }
 
+    /// Control register 0 bit 3: low-address protection (document 02, R-6).
+    #[inline]
+    pub fn low_address_protection(&self) -> bool {
+        word_bit(self.control_register_0, 3)
+    }
+
     /// A general register; only the four rightmost bits of the number are used.
     #[inline]
     pub fn general_register(&self, number: u32) -> u32 {

@@ -21,8 +21,8 @@ pub struct Machine<'a, R> {
     pub references: R,
     /// Step of the instruction; zero before the first.
     pub step: u8,
-    /// Step of the translation walk in which an exception was found (7: real address not in storage,
-    /// 8: protection); zero if none. For reports only.
+    /// Step of the translation walk in which an exception was found (7: real address not in storage, 8: protection
+    /// by the key, 9: low-address protection, before the walk); zero if none. For reports only.
     pub walk_step: u8,
 }
 

@@ -105,7 +105,8 @@ impl Tally {
             let walk = match walk_step {
                 0 => String::new(),
                 7 => ", real address".into(),
-                8 => ", protection".into(),
+                8 => ", key protection".into(),
+                9 => ", low-address protection".into(),
                 _ => format!(", walk step {walk_step}"),
             };
             lines.push(format!("{column:5} step {step:2}{walk}: {}: {count}", outcome_words(*outcome)));

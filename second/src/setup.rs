@@ -23,6 +23,9 @@ pub const PSW_EC_PROBLEM: u32 = 0x0009_0000;
 /// DAT (bit 5).
 pub const PSW_DAT: u32 = 0x0400_0000;
 
+/// Control register 0 bit 3.
+pub const LOW_ADDRESS_PROTECTION: u32 = 0x1000_0000;
+
 /// Second byte of the virtual PSW: bit 12 alone, and all but bit 12.
 pub const VIRTUAL_EC: u8 = 0x08;
 pub const VIRTUAL_BC: u8 = 0xF7;
@@ -184,6 +187,12 @@ impl Setup {
         self.guest.psw_0_31 |= PSW_DAT;
         self.guest.control_register_0 = format_bits << 19;
         self.guest.control_register_1 = 0xFF00_0000 | SEGMENT_TABLE;
+        self
+    }
+
+    /// Low-address protection: bit 3 of control register 0, whose other bits stay; after `dat`.
+    pub fn low_address_protection(mut self) -> Setup {
+        self.guest.control_register_0 |= LOW_ADDRESS_PROTECTION;
         self
     }
 

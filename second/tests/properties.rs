@@ -98,6 +98,18 @@ fn calls_complete_before_damage() {
     assert!(completed > 3_800, "{completed} of 4000");
 }
 
+/// Bit 3 of control register 0 is one in calls that store elsewhere, and is zero where it would protect (9: see
+/// `Machine::walk_step`).
+#[test]
+fn low_address_protection_comes_only_by_damage() {
+    let mut with_bit = 0;
+    for call in (0..4_000).map(|index| generate_undamaged(9, index)) {
+        assert_ne!(call.make().at_walk_step, 9);
+        with_bit += u32::from(call.request.guest.control_register_0 & 0x1000_0000 != 0);
+    }
+    assert!((1_400..2_000).contains(&with_bit), "{with_bit}");
+}
+
 /// Any sizes and any record: a numbered ending, no panic.
 #[test]
 fn nonsense_gets_a_number() {

@@ -4,7 +4,8 @@ ghost use mathlib.Core.Path.{_≡_};
 ghost use mathlib.Core.List.{List};
 ghost use Rattle.rules.specs.Machine.{Machine};
 ghost use Rattle.rules.specs.Steps.{Steps};
-ghost use Rattle.rules.specs.Access.{fetchPasses, keyTest, access, storeTest, logicalFetch, secondHalfword};
+ghost use Rattle.rules.specs.Access.{storePasses, fetchPasses, keyTest, access, storeTest};
+ghost use Rattle.rules.specs.Access.{logicalFetch, secondHalfword};
 ghost use Rattle.storage.specs.Items.{bytesIn};
 ghost use Rattle.storage.specs.Answers.{machine, told, seen};
 ghost use Rattle.access.specs.Walks.{passesFor, keyTested};
@@ -62,11 +63,11 @@ fn walked_test(keys: &mut [u8], store: bool, psw_key: u32, walked: Stepped) -> S
 // The access tests. They are two functions, and not one with a flag, so that translation is called from two places: the
 // compiler then leaves it where it is, and the tests are small enough to be put into the loops and steps that use them.
 
-// The real address of an operand that is stored later.
-pub fn store_test(storage: &[u8], keys: &mut [u8], guest: Guest, at: u32) -> Stepped
+// The real address of what is stored later.
+fn store_access(storage: &[u8], keys: &mut [u8], guest: Guest, at: u32) -> Stepped
     ensures { λ r. ⌜
         told r (now (storage .entry)) (now (keys .exit))
-        ≡ seen (storeTest guest at) (machine (now (storage .entry)) (now (keys .entry)))
+        ≡ seen (access storePasses guest at) (machine (now (storage .entry)) (now (keys .entry)))
         ⌝ }
 {
     // with DAT off a logical address is real
@@ -78,7 +79,7 @@ pub fn store_test(storage: &[u8], keys: &mut [u8], guest: Guest, at: u32) -> Ste
 }
 
 // The real address of what is fetched next.
-fn fetch_test(storage: &[u8], keys: &mut [u8], guest: Guest, at: u32) -> Stepped
+fn fetch_access(storage: &[u8], keys: &mut [u8], guest: Guest, at: u32) -> Stepped
     ensures { λ r. ⌜
         told r (now (storage .entry)) (now (keys .exit))
         ≡ seen (access fetchPasses guest at) (machine (now (storage .entry)) (now (keys .entry)))
@@ -90,6 +91,19 @@ fn fetch_test(storage: &[u8], keys: &mut [u8], guest: Guest, at: u32) -> Stepped
         walked = translate(storage, keys, guest.cr0, guest.cr1, at);
     }
     walked_test(keys, false, guest.psw_key(), walked)
+}
+
+// The store test of an operand: low-address protection comes before translation, and makes no entry.
+pub fn store_test(storage: &[u8], keys: &mut [u8], guest: Guest, at: u32) -> Stepped
+    ensures { λ r. ⌜
+        told r (now (storage .entry)) (now (keys .exit))
+        ≡ seen (storeTest guest at) (machine (now (storage .entry)) (now (keys .entry)))
+        ⌝ }
+{
+    if guest.protects_low(at) {
+        return Stepped::Stopped(Ending::Interruption(Exception::Protection), 0);
+    }
+    store_access(storage, keys, guest, at)
 }
 
 pub fn logical_fetch(
@@ -104,7 +118,7 @@ pub fn logical_fetch(
         ≡ seen (logicalFetch guest at (bytesIn width)) (machine (now (storage .entry)) (now (keys .entry)))
         ⌝ }
 {
-    let tested = fetch_test(storage, keys, guest, at);
+    let tested = fetch_access(storage, keys, guest, at);
     let Stepped::Value(real, count) = tested else {
         return tested;
     };
@@ -120,7 +134,7 @@ fn logical_halfword(storage: &[u8], keys: &mut [u8], guest: Guest, at: u32) -> S
         ≡ seen (logicalFetch guest at 2) (machine (now (storage .entry)) (now (keys .entry)))
         ⌝ }
 {
-    let tested = fetch_test(storage, keys, guest, at);
+    let tested = fetch_access(storage, keys, guest, at);
     let Stepped::Value(real, count) = tested else {
         return tested;
     };

@@ -31,6 +31,9 @@ const PSW_KEY_1: u64 = 0x0010000000000000;
 // Control register 0 bits 8-12 are 10000.
 const PAGES_4K_SEGMENTS_64K: u32 = 0x00800000;
 
+// Control register 0 bit 3.
+const LOW_ADDRESS_PROTECTION: u32 = 0x10000000;
+
 const USUAL_SIZE: usize = 0x4000;
 
 const DISPLACEMENT: u32 = 0x010;
@@ -203,14 +206,34 @@ impl Edge {
         self.psw_key_1().key(2, 0x28).key(4, 0x10)
     }
 
-    // DAT on, 4K pages and 64K segments: the operand's page 2 is in frame 002000, the instruction's page 1 isn't valid.
-    // Two page entries stand in a word.
-    pub(crate) fn instruction_not_mapped(mut self) -> Edge {
+    pub(crate) fn control_register_0(mut self, value: u32) -> Edge {
+        self.cr0 = value;
+        self
+    }
+
+    // Bit 3 of control register 0 is one, the others are as they were.
+    pub(crate) fn low_address_protection(self) -> Edge {
+        self.control_register_0(self.cr0 | LOW_ADDRESS_PROTECTION)
+    }
+
+    // The virtual PSW at 000100, with its first two bytes.
+    pub(crate) fn virtual_psw_at_100(self, halfword: u16) -> Edge {
+        self.word(MICVPSW, 0x000100)
+            .word(0x100, halfword as u32 * 0x10000)
+    }
+
+    // DAT on, 4K pages and 64K segments. Two page entries stand in a word.
+    pub(crate) fn dat(mut self, pages_0_1: u32, pages_2_3: u32) -> Edge {
         self.psw = PSW_EC_PROBLEM + PSW_DAT + INSTRUCTION as u64;
         self.cr0 = PAGES_4K_SEGMENTS_64K;
         self.cr1 = 0xFF000000 + SEGMENT_TABLE;
         self.word(SEGMENT_TABLE, 0xF0000000 + PAGE_TABLE)
-            .word(PAGE_TABLE, 0x00000018)
-            .word(PAGE_TABLE + 2 * 2, 0x00200000)
+            .word(PAGE_TABLE, pages_0_1)
+            .word(PAGE_TABLE + 2 * 2, pages_2_3)
+    }
+
+    // The operand's page 2 is in frame 002, the instruction's page 1 isn't valid.
+    pub(crate) fn instruction_not_mapped(self) -> Edge {
+        self.dat(0x00000018, 0x00200000)
     }
 }

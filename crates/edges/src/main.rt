@@ -1,6 +1,7 @@
-// Runs every edge of document 01, "Edges to show", but those in 16 MiB, which `vma demo` runs; those of recording; and
-// every wrong turn.
+// Runs every edge of document 01, "Edges to show", but those in 16 MiB, which `vma demo` runs; those of recording and
+// of low-address protection; and every wrong turn.
 // It prints a line for each; `second edges` writes the lines that must come.
+use crate::low_addresses::run_low_addresses;
 use crate::recording::run_recording;
 use crate::run::KEY_COUNT;
 use crate::run::Keys;
@@ -13,6 +14,7 @@ use crate::wrong_turns::run_wrong_turns;
 
 mod edge;
 mod image;
+mod low_addresses;
 mod places;
 mod recording;
 mod report;
@@ -28,6 +30,7 @@ fn run_all(storage: &mut Storage, keys: &mut Keys) {
     run_system_masks(storage, keys);
     run_set_storage_key(storage, keys);
     run_recording(storage, keys);
+    run_low_addresses(storage, keys);
     run_wrong_turns(storage, keys);
 }
 

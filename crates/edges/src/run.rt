@@ -2,6 +2,7 @@
 use crate::edge::Edge;
 use crate::image::Part;
 use crate::image::fill;
+use crate::low_addresses;
 use crate::recording;
 use crate::report::print_answer;
 use crate::report::print_changes;
@@ -31,6 +32,7 @@ pub(crate) enum Group {
     SystemMasks,
     SetStorageKey,
     Recording,
+    LowAddresses,
     WrongTurns,
 }
 
@@ -40,6 +42,7 @@ fn edge_of(group: Group, number: usize) -> Edge {
         Group::SystemMasks => system_masks::edge(number),
         Group::SetStorageKey => set_storage_key::edge(number),
         Group::Recording => recording::edge(number),
+        Group::LowAddresses => low_addresses::edge(number),
         Group::WrongTurns => wrong_turns::edge(number),
     }
 }

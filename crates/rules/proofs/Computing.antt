@@ -2,7 +2,7 @@
 use Rattle.rules.specs.Steps.{_>>=_, fetchBytes, consultKey, stopIf, endingAs}
 use Rattle.rules.specs.Recording.{marked}
 use Rattle.rules.specs.Translation.{formatOf, segmentEntry, pageAddress, translate}
-use Rattle.rules.specs.Access.{realOf, keyTest, access, logicalFetch}
+use Rattle.rules.specs.Access.{realOf, keyTest, access, storeTest, logicalFetch}
 use Rattle.rules.specs.Call.{complete}
 use Rattle.rules.specs.SetSystemMask.{maskOperand, maskTarget, setSystemMask}
 use Rattle.rules.specs.StoreControl.{gather, controlBlock, wordOperand, storeControl}
@@ -30,11 +30,11 @@ fetching = tt
 
 -- the instructions
 unfoldable pub masking : Unit {0}
-unfolding fetching maskOperand maskTarget setSystemMask byteOperand storeThen
+unfolding fetching storeTest maskOperand maskTarget setSystemMask byteOperand storeThen
 masking = tt
 
 unfoldable pub storing : Unit {0}
-unfolding fetching gather controlBlock wordOperand storeControl
+unfolding fetching storeTest gather controlBlock wordOperand storeControl
 storing = tt
 
 unfoldable pub keying : Unit {0}

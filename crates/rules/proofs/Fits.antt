@@ -25,7 +25,7 @@ use Rattle.rules.specs.Endings.{
   refuse,
 }
 use Rattle.rules.specs.Steps.{Steps, _>>=_, fetchBytes, consultKey, stopIf}
-use Rattle.rules.specs.Access.{realOf, keyTest, access, logicalFetch}
+use Rattle.rules.specs.Access.{realOf, keyTest, access, storeTest, logicalFetch}
 use Rattle.rules.specs.Call.{Call, expanded, Completion}
 use Rattle.rules.specs.Theorems.Answers.{table, listed, Possible, instructionLength}
 use Rattle.rules.proofs.Computing.{walking}
@@ -95,6 +95,10 @@ unfolding access keyTest consultKey stopIf _>>=_
 access-within E passes g a x =
     within-then E (λ real. Unit {0}) Any (λ r j k l h. tt) (realOf g a) _ 2 1 3 (omega arith)
     (realOf-within E g a x) (λ real t. (x .addressing, λ k. (λ t. x .protection, λ t. tt)))
+
+pub storeTest-within : (E : Ending → Type 0) (g : Guest) (a : ℕ) → Exceptions E a → Within E Any (storeTest g a) 3
+unfolding storeTest stopIf _>>=_
+storeTest-within E g a x = (λ t. x .protection, λ t. access-within E _ g a x)
 
 pub logicalFetch-within : (E : Ending → Type 0) (g : Guest) (a n : ℕ) → Exceptions E a
     → Within E Any (logicalFetch g a n) 4

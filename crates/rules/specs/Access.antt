@@ -3,7 +3,7 @@ use Prim.Native.Nat.{ℕ, _/_}
 use mathlib.Core.Bool.{Bool, not, _||_}
 use lib.Dec.{eqb}
 use Rattle.rules.specs.Endings.{Protection, Addressing, Interruption}
-use Rattle.rules.specs.Guest.{Guest, instructionAddress, datOn, pswKey}
+use Rattle.rules.specs.Guest.{Guest, instructionAddress, datOn, pswKey, protectsLow}
 use Rattle.rules.specs.Bits.{bits, bit}
 use Rattle.rules.specs.Machine.{_⊕_}
 use Rattle.rules.specs.References.{ForProtection}
@@ -33,9 +33,12 @@ keyTest passes psw real = do
 unfoldable pub access : (passes : ℕ → ℕ → Bool) → Guest → (address : ℕ) → Steps ℕ
 access passes g a = realOf g a >>= keyTest passes (pswKey g)
 
--- document 01's "store test": the real address of an operand that is stored later
-abbrev pub storeTest : Guest → (address : ℕ) → Steps ℕ
-storeTest g a = access storePasses g a
+-- Document 01's "store test": the real address of an operand that is stored later. Low-address protection comes before
+-- translation, and makes no entry: document 02, R-6.
+unfoldable pub storeTest : Guest → (address : ℕ) → Steps ℕ
+storeTest g a = do
+  stopIf (protectsLow g a) (Interruption Protection)
+  access storePasses g a
 
 -- a logical fetch of n bytes that lie in one block
 unfoldable pub logicalFetch : Guest → (address n : ℕ) → Steps ℕ

@@ -3,7 +3,7 @@
 -- Document 01, "What is modelled" and "Addresses and translation".
 use Prim.Native.Nat.{ℕ, zero, suc, _+_, _-_, _*_}
 use mathlib.Core.Bool.{Bool, not, _&&_}
-use lib.Dec.{eqb}
+use lib.Dec.{eqb, ltb}
 use lib.ListN.{getD}
 pub use Rattle.rules.specs.declared.guest.Guest.{Guest}
 use Rattle.rules.specs.Bits.{bits, bit, word, halfword}
@@ -49,6 +49,12 @@ base g (suc r) = word 8 31 (register g (suc r))
 -- the address that a second halfword names: bits 0-3 the base, 4-15 the displacement
 abbrev pub effective : Guest → (second : ℕ) → ℕ
 effective g second = halfword 4 15 second ⊕ base g (halfword 0 3 second)
+
+-- ---- control register 0
+
+-- with bit 3 one, logical addresses 0 to 511 are protected from operand stores: document 02, R-6
+abbrev pub protectsLow : Guest → (address : ℕ) → Bool
+protectsLow g address = bit 32 3 (g .cr0) && ltb address 512
 
 -- ---- control register 6
 

@@ -1,7 +1,7 @@
 // A guest's record: the real PSW, the general registers, and real control registers 0, 1 and 6.
 ghost use mathlib.Core.Path.{_≡_};
 ghost use Rattle.rules.specs.Guest.{instructionAddress, datOn, pswKey, extendedControl, problemState};
-ghost use Rattle.rules.specs.Guest.{advance, register, base, effective, assistsControl, micblok};
+ghost use Rattle.rules.specs.Guest.{advance, register, base, effective, protectsLow, assistsControl, micblok};
 
 pub struct Guest {
     pub psw: u64,
@@ -78,6 +78,13 @@ impl Guest {
         ensures { λ r. ⌜ r ≡ effective self second ⌝ }
     {
         crate::sum(second % 4096, self.base(second / 4096 % 16))
+    }
+
+    // With bit 3 of control register 0 one, logical addresses 0 to 511 are protected from operand stores.
+    pub fn protects_low(self, address: u32) -> bool
+        ensures { λ r. ⌜ r ≡ protectsLow self address ⌝ }
+    {
+        (self.cr0 / 268435456 % 2 == 1) & (address < 512)
     }
 
     // Control register 6 bits 0-3 are 10X0: step 1 of STCTL, STNSM and STOSM.

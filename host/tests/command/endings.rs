@@ -157,6 +157,20 @@ fn a_store_test_records_its_table_fetches_alone() {
 }
 
 #[test]
+fn low_address_protection() {
+    // STCTL of registers 5 and 6 to FFFFFC and 000000 in 16 MiB, with bit 3 of control register 0 one.
+    let storage = storage(0x100_0000, &[MICCREG, SECOND_HALFWORD]);
+    let mut record = record();
+    record[2 + 2] = 0x00FF_FFEC;
+    record[18] = 0x1000_0000;
+    let case = Case::new("B656", &storage, &record);
+    case.write("keys", &[0x10; 0x2000]);
+    // MICCREG, key and fetch of the second halfword, both registers, and the first word's key; not the second's.
+    let recorded = [(0, 0x10, 0x14), (2, 0x10, 0x14)];
+    expect(&case, "1 program interruption, code 4 protection", 6, &recorded);
+}
+
+#[test]
 fn bad_calls() {
     expect(&altered(ssm(0x07), 0, 0x0008_0000), "9 PSW bit 12 or bit 15 is zero", 0, &[]);
     expect(&altered(ssm(0x07), 1, 0x0000_1001), "12 instruction address is odd", 0, &[]);

@@ -7,12 +7,9 @@ pub fn edges() -> Vec<Edge> {
     // The words at FFFFF8 and FFFFFC are in block 1FFF (hex), the third in block 0, whose key is not PSW key 1.
     let protected =
         Setup::stctl_in(6, 8, 0x100_0000).operand(0xFF_FFF8).psw_key(1).key(0x1FFF, 0x10).key(0, 0x20);
+    let round = Setup::stctl_in(6, 7, 0x100_0000).operand(0xFF_FFFC);
     vec![
-        Edge::new(
-            false,
-            "operand FFFFFC, two registers, 16 MiB, key zero: goes round to 000000",
-            &Setup::stctl_in(6, 7, 0x100_0000).operand(0xFF_FFFC),
-        ),
+        Edge::new(false, "operand FFFFFC, two registers, 16 MiB, key zero: goes round to 000000", &round),
         Edge::new(
             false,
             "storage one block over 16 MiB",
@@ -24,6 +21,17 @@ pub fn edges() -> Vec<Edge> {
             &protected,
         ),
         Edge::new(false, "register 15 round the top: both blocks", &register_round_the_top()),
+        Edge::new(
+            false,
+            "operand FFFFFC, two registers, 16 MiB, bit 3 one: goes round to 000000, nothing stored",
+            &round.clone().low_address_protection(),
+        ),
+        Edge::new(
+            false,
+            "operand FFFFF8, three registers, 16 MiB, bit 3 one: third word at 000000 makes no entry, \
+             nothing stored",
+            &protected.clone().low_address_protection(),
+        ),
     ]
 }
 

@@ -1,6 +1,8 @@
-//! Every edge of document 01, section "Edges to show", and those of recording (document 02, R-13), as a concrete call.
+//! Every edge of document 01, section "Edges to show", those of recording (document 02, R-13) and of low-address
+//! protection, as a concrete call.
 
 mod large;
+mod low_address_edges;
 mod mask_edges;
 mod recording_edges;
 mod storage_key_edges;
@@ -79,6 +81,7 @@ pub fn small() -> Vec<Edge> {
     edges.extend(mask_edges::edges());
     edges.extend(storage_key_edges::edges());
     edges.extend(recording_edges::edges());
+    edges.extend(low_address_edges::edges());
     edges.extend(wrong_turns::edges());
     edges
 }

@@ -1,5 +1,5 @@
 //! Fixed calls that open every file of calls: the manual's figures 13 to 18, every bit of the system mask,
-//! bad calls in every combination, and the impostors' lists.
+//! bad calls in every combination, low-address protection, and the impostors' lists.
 
 mod figure_13;
 mod figure_14;
@@ -8,6 +8,7 @@ mod figure_16;
 mod figures_17_18;
 mod impostors;
 mod layout;
+mod low_addresses;
 mod mask_bits;
 mod order;
 
@@ -82,6 +83,11 @@ pub fn mask_bits() -> Vec<FixedList> {
 /// Bad calls in every combination, each case a list of one call.
 pub fn bad_calls() -> Vec<FixedList> {
     order::cases()
+}
+
+/// Low-address protection, each case a list of one call.
+pub fn low_addresses() -> Vec<FixedList> {
+    low_addresses::cases()
 }
 
 pub fn impostor_lists() -> Vec<FixedList> {

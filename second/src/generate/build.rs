@@ -1,6 +1,7 @@
 //! Calls built so that they complete.
 
-use super::draft::{Draft, Role};
+use super::draft::{Draft, Items, Role};
+use super::low_address;
 use super::tables::Mapping;
 use crate::address::{add, subtract};
 use crate::attempt::Instruction;
@@ -94,13 +95,8 @@ fn byte_operand(
     let old = draft.image.byte(virtual_psw);
     let ec_mode = draft.image.byte(add(virtual_psw, 1)) & 0x08 != 0;
     let store = instruction != Instruction::SetSystemMask;
-    let real = if store && draft.random.percent(15) {
-        add(virtual_psw, draft.random.below(2))
-    } else if store {
-        draft.allocate_stored(1, 1)
-    } else {
-        draft.allocate(1, 1, 0)
-    };
+    let (logical, real) =
+        if store { stored_byte(draft, mapping, virtual_psw) } else { fetched_byte(draft, mapping) };
     draft.note(Role::Operand, real);
     permit(draft, real, store);
     let value = completing_value(draft, instruction, (old, ec_mode), pending);
@@ -109,7 +105,30 @@ fn byte_operand(
     } else {
         draft.image.put(real, &[value]);
     }
-    logical_of(draft, mapping, real)
+    logical
+}
+
+/// Logical and real address of SSM's operand.
+fn fetched_byte(draft: &mut Draft, mapping: &mut Option<Mapping>) -> (u32, u32) {
+    let real = draft.allocate(1, 1, 0);
+    (logical_of(draft, mapping, real), real)
+}
+
+/// Logical and real address of STNSM's or STOSM's operand, in part a byte of the virtual PSW.
+fn stored_byte(draft: &mut Draft, mapping: &mut Option<Mapping>, virtual_psw: u32) -> (u32, u32) {
+    let (logical, real) = if let Some(logical) = low_address::place(draft, mapping, Items::BYTE) {
+        (logical, real_of(mapping, logical))
+    } else {
+        let in_virtual_psw = draft.random.percent(15);
+        let real = if in_virtual_psw {
+            add(virtual_psw, draft.random.below(2))
+        } else {
+            draft.allocate_stored(1, 1)
+        };
+        (logical_of(draft, mapping, real), real)
+    };
+    low_address::permit(&mut draft.guest, logical, Items::BYTE);
+    (logical, real)
 }
 
 /// New mask (SSM) or immediate (STNSM, STOSM) with which the instruction completes.
@@ -129,49 +148,39 @@ fn completing_value(draft: &mut Draft, instruction: Instruction, old: (u8, bool)
 
 /// The operand words of STCTL; gives the logical address of the first.
 fn store_control_operand(draft: &mut Draft, mapping: &mut Option<Mapping>) -> u32 {
-    let (r1, r3) = (draft.first_halfword >> 4 & 15, draft.first_halfword & 15);
-    let words = 1 + (u32::from(r3) + 16 - u32::from(r1)) % 16;
-    let start = match mapping {
-        Some(mapping) => mapped_words(draft, mapping, words),
-        None => draft.allocate_stored(4 * words, 4),
+    let items = draft.store_control_items();
+    let start = match low_address::place(draft, mapping, items) {
+        Some(start) => start,
+        None => match mapping {
+            Some(mapping) => mapped_words(draft, mapping, items),
+            None => draft.allocate_stored(4 * items.count, 4),
+        },
     };
-    for word in 0..words {
-        let logical = add(start, 4 * word);
-        let real = mapping.as_ref().map_or(logical, |mapping| real_of(mapping, logical));
+    for logical in items.addresses(start) {
+        let real = real_of(mapping, logical);
         draft.note(Role::Operand, real);
         permit(draft, real, true);
     }
+    low_address::permit(&mut draft.guest, start, items);
     start
 }
 
-fn real_of(mapping: &Mapping, logical: u32) -> u32 {
-    let frame = mapping.frame_of(logical >> mapping.shifts.page).unwrap_or(0);
-    (frame << mapping.shifts.page) | (logical % mapping.page_size())
+fn real_of(mapping: &Option<Mapping>, logical: u32) -> u32 {
+    mapping.as_ref().map_or(logical, |mapping| mapping.real_of(logical))
 }
 
 /// Logical words in one page or across the end of one, each page in a frame that has the words in storage.
-fn mapped_words(draft: &mut Draft, mapping: &mut Mapping, words: u32) -> u32 {
+fn mapped_words(draft: &mut Draft, mapping: &mut Mapping, items: Items) -> u32 {
     let page_size = mapping.page_size();
     for _ in 0..60 {
         let offset = if draft.random.percent(35) {
-            page_size - 4 * (1 + draft.random.below(words.min(16)))
+            page_size - 4 * (1 + draft.random.below(items.count))
         } else {
             draft.random.below(page_size.min(draft.size()) / 4) * 4
         };
         let page = mapping.candidate_page(draft);
         let start = add(page << mapping.shifts.page, offset);
-        let mut trial = mapping.clone();
-        let fits = (0..words).all(|word| {
-            let logical = add(start, 4 * word);
-            let page = logical >> mapping.shifts.page;
-            if trial.frame_of(page).is_none() {
-                let frame = draft.random.below(draft.size().div_ceil(page_size));
-                trial.add_page(page, frame);
-            }
-            draft.contains_stored(real_of(&trial, logical), 4)
-        });
-        if fits {
-            *mapping = trial;
+        if mapping.map_items(draft, start, items) {
             return start;
         }
     }

@@ -2,6 +2,7 @@
 
 use super::damage_fields::damage_field;
 use super::draft::{Draft, Role};
+use super::low_address;
 use super::sizes::MOST_KEYS;
 use crate::address::{add, subtract, ADDRESS_MASK};
 
@@ -24,6 +25,7 @@ pub fn damage(draft: &mut Draft) {
         56..=58 => registers(draft),
         59..=60 => draft.expanded = !draft.expanded,
         61..=63 => smaller_storage(draft),
+        64..=74 => low_address::damage(draft),
         _ => damage_field(draft),
     }
 }

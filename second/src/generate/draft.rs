@@ -30,6 +30,26 @@ pub struct Place {
     pub address: u32,
 }
 
+/// Items of an operand, one after the other, each of `length` bytes: STCTL's words, or one byte.
+#[derive(Clone, Copy)]
+pub struct Items {
+    pub count: u32,
+    pub length: u32,
+}
+
+impl Items {
+    pub const BYTE: Items = Items { count: 1, length: 1 };
+
+    pub fn words(count: u32) -> Items {
+        Items { count, length: 4 }
+    }
+
+    /// The logical address of each, from that of the first.
+    pub fn addresses(self, start: u32) -> impl Iterator<Item = u32> {
+        (0..self.count).map(move |item| add(start, self.length * item))
+    }
+}
+
 /// Blocks by number in which items may be placed; empty for all blocks.
 #[derive(Clone, Debug, Default)]
 pub struct Room {
@@ -99,6 +119,12 @@ impl Draft {
         Call { request: self.request(), image: self.image }
     }
 
+    /// The words that STCTL stores.
+    pub fn store_control_items(&self) -> Items {
+        let (r1, r3) = (self.first_halfword >> 4 & 15, self.first_halfword & 15);
+        Items::words(1 + (u32::from(r3) + 16 - u32::from(r1)) % 16)
+    }
+
     /// An item; its block, or both of a word across a boundary, has a random key from now on.
     pub fn note(&mut self, role: Role, address: u32) {
         self.places.push(Place { role, address });
@@ -152,6 +178,15 @@ impl Draft {
 
     pub fn take(&mut self, address: u32, length: u32) {
         self.used.push((address, length));
+    }
+
+    /// Take what may be stored in, if no byte of it is taken.
+    pub fn take_stored(&mut self, address: u32, length: u32) -> bool {
+        let free = self.contains_stored(address, length) && !self.taken(address, length);
+        if free {
+            self.take(address, length);
+        }
+        free
     }
 
     /// A free place, for an item that is only read, whose address leaves `residue` when divided by `alignment`;

@@ -5,6 +5,7 @@ mod build_key;
 mod damage;
 mod damage_fields;
 mod draft;
+mod low_address;
 mod pair;
 mod random;
 mod sizes;
@@ -82,19 +83,24 @@ fn chain_random(seed: u64, index: u64) -> Random {
     Random::new(seed ^ 0x6368_6169_6E00_0000, index)
 }
 
-/// Some calls of a list repeat an earlier request.
+/// Some calls of a list repeat an earlier request, half of these with bit 3 of control register 0 turned over.
 fn chain(mut draft: Draft, length: usize) -> Chain {
     let mut requests: Vec<Request> = Vec::new();
     while requests.len() < length {
         if !requests.is_empty() && draft.random.percent(25) {
-            let repeated = draft.random.pick(&requests);
+            let mut repeated = draft.random.pick(&requests);
+            if draft.random.percent(50) {
+                low_address::turn_over(&mut repeated.guest);
+            }
             requests.push(repeated);
             continue;
         }
         draft.start_request();
         draft = built(draft);
-        if draft.random.percent(30) {
-            damage_but_sizes(&mut draft);
+        match draft.random.below(100) {
+            0..=29 => damage_but_sizes(&mut draft),
+            30..=41 => low_address::damage(&mut draft),
+            _ => {}
         }
         requests.push(draft.request());
     }

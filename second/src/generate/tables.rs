@@ -1,6 +1,6 @@
 //! Segment and page tables for the logical pages that a drafted call uses.
 
-use super::draft::{Draft, Role};
+use super::draft::{Draft, Items, Role};
 use crate::address::{add, subtract};
 
 /// Sizes as shifts: 11 or 12, 16 or 20.
@@ -84,8 +84,32 @@ impl Mapping {
         true
     }
 
-    pub fn frame_of(&self, page: u32) -> Option<u32> {
+    fn frame_of(&self, page: u32) -> Option<u32> {
         self.pages.iter().find(|&&(one, _)| one == page).map(|&(_, frame)| frame)
+    }
+
+    /// The real address of a logical one whose page is mapped.
+    pub fn real_of(&self, logical: u32) -> u32 {
+        let frame = self.frame_of(logical >> self.shifts.page).unwrap_or(0);
+        (frame << self.shifts.page) | (logical % self.page_size())
+    }
+
+    /// Map the pages of these items, a new page in any frame; false, and nothing is mapped, if an item is then not
+    /// where items may be stored.
+    pub fn map_items(&mut self, draft: &mut Draft, start: u32, items: Items) -> bool {
+        let mut trial = self.clone();
+        let fits = items.addresses(start).all(|logical| {
+            let page = logical >> self.shifts.page;
+            if trial.frame_of(page).is_none() {
+                let frame = draft.random.below(draft.size().div_ceil(self.page_size()));
+                trial.add_page(page, frame);
+            }
+            draft.contains_stored(trial.real_of(logical), items.length)
+        });
+        if fits {
+            *self = trial;
+        }
+        fits
     }
 
     /// Put the segment table and the page tables in storage, and control register 1.

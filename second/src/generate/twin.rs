@@ -2,6 +2,7 @@
 
 use super::build::permit;
 use super::draft::{Draft, Role};
+use super::low_address;
 use crate::address::{add, subtract};
 use crate::attempt::Instruction;
 use crate::call::Request;
@@ -40,13 +41,13 @@ fn store_control_twin(draft: &mut Draft) -> Option<Request> {
     if base == 0 {
         return None;
     }
-    let words =
-        1 + (u32::from(draft.first_halfword & 15) + 16 - u32::from(draft.first_halfword >> 4 & 15)) % 16;
-    let operand = draft.allocate_stored(4 * words, 4);
-    for word in 0..words {
-        permit(draft, add(operand, 4 * word), true);
+    let items = draft.store_control_items();
+    let operand = draft.allocate_stored(4 * items.count, 4);
+    for address in items.addresses(operand) {
+        permit(draft, address, true);
     }
     let mut request = draft.request();
+    low_address::permit(&mut request.guest, operand, items);
     let register = &mut request.guest.general_registers[base as usize];
     *register = *register & 0xFF00_0000 | subtract(operand, displacement);
     Some(request)

@@ -1,10 +1,10 @@
-//! A set of calls for another program: figures, impostors' lists, single calls, lists, pairs of lists.
+//! A set of calls for another program: fixed calls, single calls, lists, pairs of lists.
 
 mod singles;
 pub mod text;
 
 use crate::call::{Request, StorageImage};
-use crate::fixed::{bad_calls, figures, impostor_lists, mask_bits, FixedList};
+use crate::fixed::{bad_calls, figures, impostor_lists, low_addresses, mask_bits, FixedList};
 use crate::generate::{generate_chain_of_size, generate_pair, Random, SizeBudget};
 use crate::report::{micrseg, Tally};
 use singles::Singles;
@@ -96,6 +96,7 @@ impl VectorSet {
         self.shares.figures = self.fixed_lists("Figures 13 to 18", &figures());
         self.shares.single = self.fixed_lists("Every bit of the system mask", &mask_bits());
         self.shares.single += self.fixed_lists("Bad calls: every combination", &bad_calls());
+        self.shares.single += self.fixed_lists("Low-address protection", &low_addresses());
         self.shares.in_lists = self.fixed_lists("Lists for the impostors", &impostor_lists());
     }
 

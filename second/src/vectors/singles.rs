@@ -15,12 +15,13 @@ const CANDIDATES: u64 = 16;
 const ROUND_TRIALS: u64 = 10_000;
 
 /// Items that can go round from FFFFFF to 000000.
-const ROUND_ITEMS: [RoundItem; 5] = [
+const ROUND_ITEMS: [RoundItem; 6] = [
     RoundItem::Micblok,
     RoundItem::VirtualRegister,
     RoundItem::VirtualPsw,
     RoundItem::SwapWord,
     RoundItem::Operand,
+    RoundItem::ProtectedOperand,
 ];
 
 #[derive(Clone, Copy, Debug, PartialEq, Eq)]
@@ -32,6 +33,8 @@ enum RoundItem {
     SwapWord,
     /// Words of STCTL at FFFFFC and 000000.
     Operand,
+    /// The same, refused by low-address protection (document 02, R-6).
+    ProtectedOperand,
 }
 
 pub struct Singles {
@@ -84,7 +87,7 @@ impl Singles {
         self.reached.get(&point(&call.request, &call.make())).copied().unwrap_or(0)
     }
 
-    /// A call in 16 MiB that completes with this item going round; the last one drawn if there is none.
+    /// A call in 16 MiB with this item going round; the last one drawn if there is none.
     fn going_round(&mut self, item: RoundItem) -> Call {
         let mut call = self.draw(0x100_0000);
         for _ in 0..ROUND_TRIALS {
@@ -108,15 +111,20 @@ impl RoundItem {
             RoundItem::VirtualPsw => &[SetSystemMask, StoreThenAnd, StoreThenOr],
             RoundItem::SwapWord => &[SetStorageKey],
             RoundItem::Operand => &[StoreControl],
+            RoundItem::ProtectedOperand if call.request.guest.low_address_protection() => &[StoreControl],
+            RoundItem::ProtectedOperand => &[],
         };
         Instruction::of_first_halfword(call.request.first_halfword)
             .is_some_and(|one| instructions.contains(&one))
     }
 }
 
-/// The items of a completed attempt that go round.
+/// The items of a completed attempt that go round, or the operand of one that is refused by low-address protection.
 fn round_items(micblok: u32, answer: &Answer) -> Vec<RoundItem> {
     let mut items = Vec::new();
+    if low_after_another_word(answer) {
+        items.push(RoundItem::ProtectedOperand);
+    }
     if answer.ending.number() != 0 {
         return items;
     }
@@ -141,4 +149,11 @@ fn round_items(micblok: u32, answer: &Answer) -> Vec<RoundItem> {
         items.push(RoundItem::Operand);
     }
     items
+}
+
+/// Refused by low-address protection after a word that passed its test: words rise to a low address only by going
+/// round.
+fn low_after_another_word(answer: &Answer) -> bool {
+    let last = answer.references.last().map(|entry| entry.kind);
+    answer.at_walk_step == 9 && last == Some(ReferenceKind::KeyConsulted)
 }

@@ -1,10 +1,12 @@
-//! Every edge against values worked out by hand from document 01, with the keys as document 02, R-13 has them.
+//! Every edge against values worked out by hand from document 01, with the keys as document 02, R-13 has them,
+//! and those of low-address protection.
 //!
 //! Set-up (see `setup.rs`): 16 KiB, PSW key zero, DAT off, instruction at 1000, operand at 2000, MICBLOK at 400,
 //! ECBLOK at 500, virtual PSW at 600. Virtual register r is the word A0B0C0D0 + r times 01010101.
 
 #[path = "../common/expected.rs"]
 mod expected;
+mod low_addresses;
 mod recording;
 mod section;
 mod wrong_turns;
@@ -12,6 +14,7 @@ mod wrong_turns;
 use std::collections::BTreeSet;
 
 use expected::Expected;
+use low_addresses::*;
 use recording::*;
 use second::edges::{large, small, Edge};
 use section::*;
@@ -24,6 +27,10 @@ fn expectations() -> Vec<Expected> {
     list.extend(set_storage_key());
     list.extend(set_storage_key_recording());
     list.extend(other_recording());
+    list.extend(store_then_low());
+    list.extend(store_control_low());
+    list.extend(first_step_and_control_fields());
+    list.extend(translated_low());
     list.extend(wrong_turns_1_and_2());
     list.extend(wrong_turn_3());
     list.extend(wrong_turn_4());
@@ -37,7 +44,9 @@ fn every_edge_gives_what_the_paper_says() {
 
 #[test]
 fn every_edge_in_16_mib_gives_what_the_paper_says() {
-    check(&large(), &large_store_control());
+    let mut list = large_store_control();
+    list.extend(large_low());
+    check(&large(), &list);
 }
 
 fn check(edges: &[Edge], expectations: &[Expected]) {
@@ -67,6 +76,15 @@ fn storage_of_the_edges() {
     assert!(large().iter().all(|edge| edge.image.storage_size > 4_194_304));
     assert!(large().iter().all(|edge| edge.image.key_count == edge.image.storage_size / 2_048));
     assert_eq!(large()[1].image.key_count, 8_193);
+}
+
+/// 45 small edges and 4 large ones are those of document 01, recording and the wrong turns.
+#[test]
+fn number_of_edges() {
+    assert_eq!((small().len(), large().len()), (45 + 21, 4 + 2));
+    let case = |place: usize| small()[place].case.clone();
+    assert!(case(25).contains("store test records nothing") && case(26).contains("bit 3"));
+    assert!(case(46).contains("bit 3") && case(47).starts_with("wrong turn 1"));
 }
 
 #[test]

@@ -9,6 +9,7 @@ mod expected;
 mod figures_13_14;
 mod figures_15_to_18;
 mod impostors;
+mod low_addresses;
 mod mask_bits;
 mod order;
 
@@ -16,7 +17,7 @@ use std::collections::BTreeMap;
 
 use expected::Expected;
 use second::call::changes;
-use second::fixed::{bad_calls, figures, impostor_lists, mask_bits, Field, FixedList};
+use second::fixed::{bad_calls, figures, impostor_lists, low_addresses, mask_bits, Field, FixedList};
 use second::{Call, ReferenceKind};
 
 #[test]
@@ -61,7 +62,7 @@ fn check(lists: &[FixedList], expectations: &[Expected]) {
 
 #[test]
 fn every_case_fits_in_a_comment() {
-    for list in figures().iter().chain(&mask_bits()).chain(&bad_calls()).chain(&impostor_lists()) {
+    for list in [figures(), mask_bits(), bad_calls(), low_addresses(), impostor_lists()].iter().flatten() {
         for call in &list.calls {
             assert!(
                 call.case.is_ascii() && call.mnemonic().len() + 1 + call.case.len() <= 77,

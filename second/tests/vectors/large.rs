@@ -1,4 +1,5 @@
-//! A set with `--large`: sizes, items that go round from FFFFFF to 000000, and recording in both their blocks.
+//! A set with `--large`: sizes, items that go round from FFFFFF to 000000, recording in both their blocks, and operands
+//! refused there by low-address protection.
 
 use std::collections::BTreeSet;
 use std::ops::RangeInclusive;
@@ -6,6 +7,7 @@ use std::ops::RangeInclusive;
 use second::vectors::{SetOptions, VectorSet};
 use second::{Answer, ReferenceKind};
 
+use crate::low_addresses::refused_round_the_top;
 use crate::reader::{read, ReadCall};
 
 /// What goes round in a completed call.
@@ -52,6 +54,7 @@ fn sizes_and_items_that_go_round() {
         sizes.push(call.storage.len());
         assert!(call.keys.len() <= 8_448);
         recorded += usize::from(records_round_the_top(call, answer));
+        items.extend(refused_round_the_top(call, answer).then_some("protected operand"));
         if answer.ending.number() == 0 {
             completed += 1;
             items.extend(going_round(call, answer));
@@ -66,7 +69,7 @@ fn sizes_and_items_that_go_round() {
     assert!(of_size(4_194_305..=16_777_215) >= 1);
     assert!(completed >= 20, "{completed}");
     assert!(recorded >= 3, "{recorded}");
-    for item in ["MICBLOK", "virtual register", "virtual PSW", "swap word", "operand"] {
+    for item in ["MICBLOK", "virtual register", "virtual PSW", "swap word", "operand", "protected operand"] {
         assert!(items.contains(item), "{item}");
     }
 }

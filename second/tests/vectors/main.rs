@@ -1,6 +1,7 @@
 //! Files of calls: read back, sizes, contents, and what the stored set reaches.
 
 mod large;
+mod low_addresses;
 mod pairs_in_file;
 mod reached;
 mod reader;
@@ -8,6 +9,7 @@ mod recording;
 
 use std::sync::OnceLock;
 
+use low_addresses::LowAddressTally;
 use reader::{read, Crc, ReadCall};
 use recording::RecordingTally;
 use second::report::{micrseg, Tally};
@@ -25,6 +27,7 @@ struct ReadSet {
     printed: String,
     tally: Tally,
     recording: RecordingTally,
+    low_addresses: LowAddressTally,
     storage_sizes: Vec<usize>,
     most_keys: usize,
     /// Calls on each storage, in the order of the file.
@@ -33,16 +36,18 @@ struct ReadSet {
 
 fn read_set(set: &VectorSet) -> ReadSet {
     let (mut tally, mut recording) = (Tally::default(), RecordingTally::default());
+    let mut low_addresses = LowAddressTally::default();
     let (mut storage_sizes, mut calls_on_storage, mut most_keys) = (Vec::new(), Vec::new(), 0);
     let printed = read(set.stdin(), &mut |call: &ReadCall, answer: &Answer| {
         tally.add(&call.request, micrseg(call.storage, &call.request), answer);
         recording.add(call, answer);
+        low_addresses.add(call, answer);
         storage_sizes.push(call.storage.len());
         most_keys = most_keys.max(call.keys.len());
         calls_on_storage.resize(call.storage_number, 0);
         calls_on_storage[call.storage_number - 1] += 1;
     });
-    ReadSet { printed, tally, recording, storage_sizes, most_keys, calls_on_storage }
+    ReadSet { printed, tally, recording, low_addresses, storage_sizes, most_keys, calls_on_storage }
 }
 
 /// The stored set as it is read back from its text.
@@ -132,6 +137,7 @@ fn form_of_the_stored_set() {
         "# Figures 13 to 18",
         "# Every bit of the system mask",
         "# Bad calls: every combination",
+        "# Low-address protection",
         "# Lists for the impostors",
         "# Single calls",
         "# Lists of calls on one storage",

@@ -36,7 +36,7 @@ fn outcomes_by_hand() -> BTreeSet<(Outcome, &'static str)> {
     table
 }
 
-/// Codes of a logical access with the step of the walk; 7 is the real address, 8 protection.
+/// Codes of a logical access with the step of the walk; 7 is the real address, 8 protection by the key.
 const ACCESS: [(u32, u8); 11] =
     [(18, 1), (16, 2), (5, 3), (16, 3), (18, 3), (17, 4), (5, 5), (17, 5), (18, 5), (5, 7), (4, 8)];
 
@@ -65,7 +65,13 @@ fn points_by_hand() -> BTreeSet<Point> {
     table.extend([2, 5, 7, 8, 9, 11].map(|step| ("SSK", (3, u32::from(step)), step, 0)));
     table.extend([3, 4, 6, 10].map(|step| ("SSK", (1, 2), step, 0)));
     table.insert(("SSK", (0, 0), 12, 0));
-    // Logical accesses. At the operand walk step 1 cannot fail: the second halfword has passed it.
+    table.extend(accesses_by_hand());
+    table
+}
+
+/// Those of logical accesses. At the operand walk step 1 cannot fail: the second halfword has passed it.
+fn accesses_by_hand() -> BTreeSet<Point> {
+    let mut table: BTreeSet<Point> = BTreeSet::new();
     for (code, walk_step) in ACCESS {
         table.insert(("SSM", (1, code), 5, walk_step));
         table.insert(("STCTL", (1, code), 3, walk_step));
@@ -80,6 +86,9 @@ fn points_by_hand() -> BTreeSet<Point> {
             }
         }
     }
+    // 9 is low-address protection (document 02, R-6), of operand stores only.
+    table.insert(("STCTL", (1, 4), 5, 9));
+    table.extend(STORE_THEN.map(|mnemonic| (mnemonic, (1, 4), 6, 9)));
     table
 }
 

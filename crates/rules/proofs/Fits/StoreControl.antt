@@ -8,7 +8,7 @@ use lib.ListN.{length, length-append}
 use Rattle.rules.specs.Machine.{_⊕_}
 use Rattle.rules.specs.Guest.{Guest, instructionAddress}
 use Rattle.rules.specs.Steps.{Steps, _>>=_, fetchBytes, stopIf}
-use Rattle.rules.specs.Access.{access, secondHalfword}
+use Rattle.rules.specs.Access.{secondHalfword}
 use Rattle.rules.specs.ControlFields.{addressIn}
 use Rattle.rules.specs.Call.{Call, r1, r3, complete}
 use Rattle.rules.specs.StoreControl.{
@@ -27,7 +27,7 @@ use Rattle.rules.proofs.Fits.{
   Stops,
   stops,
   Exceptions,
-  access-within,
+  storeTest-within,
   logicalFetch-within,
   Completes,
   completes-more,
@@ -66,7 +66,7 @@ registers-within ecblok r n =
 operands-within : (g : Guest) (a n : ℕ) → a < 2 ^ 24
     → Within (Stops 0xb6) (λ xs j. Many n xs) (operandWords g a n) (n * 3)
 operands-within g a n l =
-    gather-within _ _ (λ a. a < 2 ^ 24) 3 (λ a l. access-within (Stops 0xb6) _ g a (stctl-exceptions a l))
+    gather-within _ _ (λ a. a < 2 ^ 24) 3 (λ a l. storeTest-within (Stops 0xb6) g a (stctl-exceptions a l))
     (λ a l. omega arith) [] a n 0 n l (omega arith) refl
 
 wordStores-few : (reals values : List ℕ) → length (wordStores reals values) ≤ length reals

@@ -7,7 +7,7 @@ use Rattle.rules.specs.Machine.{_⊕_}
 use Rattle.rules.specs.Guest.{Guest, advance, effective, instructionAddress}
 use Rattle.rules.specs.Endings.{Completed, Expanded, FieldMissing, refuse}
 use Rattle.rules.specs.Steps.{_>>=_, fetchBytes, stopIf, endingAs}
-use Rattle.rules.specs.Access.{access, secondHalfword}
+use Rattle.rules.specs.Access.{secondHalfword}
 use Rattle.rules.specs.Call.{Call, complete}
 use Rattle.rules.specs.StoreThenMask.{MaskChange, byteOperand, storeThen}
 use Rattle.rules.specs.Theorems.Answers.{table, listed, Possible, instructionLength}
@@ -17,7 +17,7 @@ use Rattle.rules.proofs.Fits.{
   possible,
   stops,
   stops-expanded,
-  access-within,
+  storeTest-within,
   logicalFetch-within,
   Fits,
   fits-then,
@@ -42,7 +42,7 @@ byteOperand-within op t g =
     (within-endingAs (λ e. Unit {0}) (Stops op) Any (λ e. refuse) (λ e u. t .refused) (secondHalfword g) 4
     (logicalFetch-within (λ e. Unit {0}) g (instructionAddress g ⊕ 2) 2
     (record { addressing = tt; protection = tt; specification = tt; segment = tt; page = tt })))
-    (λ second u. access-within (Stops op) _ g (effective g second) (exceptions op _ (omega arith) (t .accesses)))
+    (λ second u. storeTest-within (Stops op) g (effective g second) (exceptions op _ (omega arith) (t .accesses)))
 
 pub storeThen-fits : (op : ℕ) → MaskTable op → (change : MaskChange) (c : Call) → Fits op c (storeThen change c) 11
 unfolding _>>=_ fetchBytes stopIf complete storeThen

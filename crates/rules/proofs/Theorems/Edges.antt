@@ -1,6 +1,6 @@
 -- The marked edges, by computation over the definitions.
 use mathlib.Core.Path.{refl}
-use Rattle.rules.specs.Theorems.Edges.{EdgesHold, RecordingEdgesHold}
+use Rattle.rules.specs.Theorems.Edges.{EdgesHold, RecordingEdgesHold, LowAddressEdgesHold}
 use Rattle.rules.proofs.Computing.{computing}
 
 pub edges-hold : EdgesHold
@@ -10,3 +10,7 @@ edges-hold = refl
 pub recording-edges-hold : RecordingEdgesHold
 unfolding computing
 recording-edges-hold = refl
+
+pub low-address-edges-hold : LowAddressEdgesHold
+unfolding computing
+low-address-edges-hold = refl

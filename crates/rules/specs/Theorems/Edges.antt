@@ -5,6 +5,7 @@ use mathlib.Core.Bool.{Bool, true, false}
 use mathlib.Core.List.{List, [], _∷_}
 use Rattle.rules.specs.Machine.{Machine}
 use Rattle.rules.specs.Writes.{Write, store}
+use Rattle.rules.specs.Call.{Call}
 use Rattle.rules.specs.Theorems.Samples.{
   Row,
   Hold,
@@ -12,7 +13,11 @@ use Rattle.rules.specs.Theorems.Samples.{
   endsWith,
   machineOf,
   machineWith,
+  guestWith,
+  callOf,
   callWith,
+  protecting,
+  translating,
   vpswAt,
   ec,
   bc,
@@ -112,9 +117,83 @@ recordingEdges =
     ∷ endsWith (machineWith (vpswAt false 0xfff ∷ [])) (callWith 0xacf8 0 false) 3 3 1 (0x04 ∷ 0x00 ∷ [])
     ∷ []
 
+-- Operands that are protected, document 02, R-6: bit 3 of control register 0 is one. Nothing is stored, the list ends
+-- before the entry of the word or byte at fault, and fetches alone are recorded, in block 0.
+abbrev protectedAfter : Machine → Call → (count : ℕ) → Row
+protectedAfter m c count = endsWith m (protecting c) 1 4 count (0x04 ∷ 0x00 ∷ [])
+
+-- the operand at an address below 1000
+abbrev operandAt : ℕ → Write
+operandAt = store 0x1e 2
+
+-- STCTL of register 5, and STNSM, EC, old 07, AND FC
+abbrev stctlAt : (address : ℕ) → Machine
+stctlAt address = machineWith (operandAt address ∷ [])
+
+abbrev stctlOfOne : Call
+stctlOfOne = callWith 0xb655 0 false
+
+abbrev stnsmAt : (address : ℕ) → Machine
+stnsmAt address = machineWith (store 0x18 2 (ec 0x07) ∷ operandAt address ∷ [])
+
+abbrev stnsm : Call
+stnsm = callWith 0xacfc 0 false
+
+-- STCTL of registers 0 and 1 at FFFFFC, with DAT on; the last page and page 0 are both in frame 0
+abbrev lastPage : Machine
+lastPage = machineWith (operandAt 0x2000 ∷ store 0xfc 4 0xf00000d0 ∷ [])
+
+abbrev roundTheTop : Call
+roundTheTop = translating (callWith 0xb601 0xfffffc false)
+
+-- STNSM with DAT on; the operand's segment is invalid, the instruction's is not
+abbrev segmentInvalid : Machine
+segmentInvalid =
+    machineWith (store 0x18 2 (ec 0x07) ∷ operandAt 0x20 ∷ store 0xc0 4 0xd1 ∷ store 0xc4 4 0xd0 ∷ [])
+
+abbrev pub lowAddressEdges : List Row
+lowAddressEdges =
+    -- document 01's edges that store an operand, which is at 20
+    protectedAfter (machineWith []) (callWith 0xb6e1 0 true) 7
+    ∷ protectedAfter (machineWith []) (callWith 0xb655 0 true) 4
+    ∷ protectedAfter (machineWith []) (callWith 0xb6ff 0 true) 4
+    ∷ protectedAfter (machineWith []) (callWith 0xb610 0 true) 19
+    ∷ protectedAfter (masks false (ec 0x07) 0) (callWith 0xacfc 0 true) 4
+    ∷ protectedAfter (masks true (ec 0x07) 0) (callWith 0xad03 0 true) 4
+    ∷ protectedAfter (masks true (bc 0x07) 0) (callWith 0xad03 0 true) 4
+    -- and one that ends before the store test
+    ∷ endsWith (masks false (ec 0x07) 0) (protecting (callWith 0xacf8 0 true)) 2 0 2 (0x04 ∷ 0x00 ∷ [])
+    -- fetches and control fields are not affected: SSM's operand and virtual PSW, and SSK's swap word
+    ∷ completes (masks false (ec 0x04) 0x07) (protecting (callWith 0x8000 0 true)) 9 0x20 (store 0x18 1 0x07 ∷ [])
+    (0x06 ∷ 0x00 ∷ [])
+    ∷ completes (pageApart (0x00 ∷ 0x00 ∷ 0x04 ∷ 0x00 ∷ [])) (protecting (callWith 0x0812 0 true)) 8 0x1e
+    (store 0xe0 4 0x08003e00 ∷ []) (0x06 ∷ 0x00 ∷ 0x38 ∷ 0x00 ∷ [])
+    -- STNSM at 511 with bit 3 zero; with bit 3 one; and at 512, where the virtual PSW's byte at 18 is stored too
+    ∷ completes (stnsmAt 0x1ff) stnsm 7 0x20 (store 0x1ff 1 0x07 ∷ store 0x18 1 0x04 ∷ []) (0x06 ∷ 0x00 ∷ [])
+    ∷ protectedAfter (stnsmAt 0x1ff) stnsm 4
+    ∷ completes (stnsmAt 0x200) (protecting stnsm) 7 0x20 (store 0x200 1 0x07 ∷ store 0x18 1 0x04 ∷ [])
+    (0x06 ∷ 0x00 ∷ [])
+    -- STCTL at 508 with bit 3 zero; with bit 3 one; and at 512
+    ∷ completes (stctlAt 0x1fc) stctlOfOne 6 0x20 (store 0x1fc 4 6 ∷ []) (0x06 ∷ 0x00 ∷ [])
+    ∷ protectedAfter (stctlAt 0x1fc) stctlOfOne 4
+    ∷ completes (stctlAt 0x200) (protecting stctlOfOne) 6 0x20 (store 0x200 4 6 ∷ []) (0x06 ∷ 0x00 ∷ [])
+    -- at 510, which is not on a word: refused by step 4
+    ∷ endsWith (stctlAt 0x1fe) (protecting stctlOfOne) 1 2 3 (0x04 ∷ 0x00 ∷ [])
+    -- two words, at 508 and 512: neither is stored
+    ∷ protectedAfter (stctlAt 0x1fc) (callWith 0xb601 0 false) 5
+    -- round the top with bit 3 zero: words at FFFFFC and 000000; with bit 3 one: ends after the first word's test
+    ∷ completes lastPage roundTheTop 15 0x20 (store 0xffc 4 1 ∷ store 0x000 4 2 ∷ []) (0x06 ∷ 0x06 ∷ [])
+    ∷ protectedAfter lastPage roundTheTop 10
+    -- protection comes before translation
+    ∷ protectedAfter segmentInvalid (translating (callOf (guestWith 0x10001c 0 0x80000008) 0xacfc false)) 6
+    ∷ []
+
 -- Every row gives what document 01 says: the ending, the count, the next address, and every byte and key.
 abbrev pub EdgesHold : Type 0
 EdgesHold = Hold edges
 
 abbrev pub RecordingEdgesHold : Type 0
 RecordingEdgesHold = Hold recordingEdges
+
+abbrev pub LowAddressEdgesHold : Type 0
+LowAddressEdgesHold = Hold lowAddressEdges

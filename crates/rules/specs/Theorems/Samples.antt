@@ -55,6 +55,30 @@ callOf guest first installed = record { guest = guest; first = first; installed 
 abbrev pub callWith : (first r2 : ℕ) (installed : Bool) → Call
 callWith first r2 installed = callOf (guestWith 0x1c r2 0x80000008) first installed
 
+-- a call with bit 3 of control register 0 one
+abbrev pub protecting : Call → Call
+protecting c = callOf
+    (record {
+      psw = c .guest .psw;
+      general = c .guest .general;
+      cr0 = c .guest .cr0 + 2 ^ 28;
+      cr1 = c .guest .cr1;
+      cr6 = c .guest .cr6;
+    })
+    (c .first) (c .installed)
+
+-- a call with DAT on, 4K pages and 1M segments, by the segment table at C0
+abbrev pub translating : Call → Call
+translating c = callOf
+    (record {
+      psw = c .guest .psw + 2 ^ 58;
+      general = c .guest .general;
+      cr0 = c .guest .cr0 + 0x00900000;
+      cr1 = 0xc0;
+      cr6 = c .guest .cr6;
+    })
+    (c .first) (c .installed)
+
 -- MICVPSW, with or without its pending bit
 abbrev pub vpswAt : (pending : Bool) (address : ℕ) → Write
 vpswAt pending address = store 0x10 4 (cond pending 0x80000000 0 + address)

@@ -1,5 +1,8 @@
 //! Starts and writing calls that are wrong, each in one way, are told from the second program's.
 
+use std::collections::HashSet;
+use std::sync::OnceLock;
+
 use second::Request;
 
 use crate::fuzz::plan::{Plan, BLOCK};
@@ -42,20 +45,23 @@ fn numbers(trail: &str) -> [&str; 2] {
 #[test]
 fn the_call_is_named_that_differs() {
     const GENERAL_7: usize = 2 + 7;
-    fn is_chosen(before: &record::Record) -> bool {
-        before[GENERAL_7] % 3_000 == 3
-    }
+    static CHOSEN: OnceLock<u32> = OnceLock::new();
     // A bit that should be zero, between the two numbers.
     fn bit(buffer: &mut [u8], held: u32, call: &MadeCall) -> Written {
         let written = trail_write(buffer, held, call);
         let packed = u64::from(written.refusal()) << 56 | u64::from(written.held());
-        Written::unpack(packed | u64::from(is_chosen(&call.before)) << 40)
+        let is_chosen = CHOSEN.get() == Some(&call.before[GENERAL_7]);
+        Written::unpack(packed | u64::from(is_chosen) << 40)
     }
     let lists = (0..PLAN.groups()).flat_map(|group| PLAN.lists(group));
-    let is_chosen = |request: &Request| is_chosen(&record::of_guest(&request.guest));
-    let mut calls = lists.flat_map(|list| (list.first..).zip(list.chain.requests));
-    let (expected, _) = calls.find(|(_, request)| is_chosen(request)).expect("one is chosen");
-    assert!(expected >= 4_096, "in a later group");
+    let requests = lists.flat_map(|list| (list.first..).zip(list.chain.requests));
+    let word = |request: &Request| record::of_guest(&request.guest)[GENERAL_7];
+    let calls: Vec<(u64, u32)> = requests.map(|(call, request)| (call, word(&request))).collect();
+    // The first in a later group whose word no call before it has.
+    let mut before = HashSet::new();
+    let is_new = calls.iter().filter(|(_, word)| before.insert(*word));
+    let (expected, word) = is_new.copied().find(|(call, _)| *call >= 4_096).expect("a later group");
+    CHOSEN.set(word).expect("set once");
     let (call, trail) = found_in_writing(bit);
     assert_eq!(call, expected);
     let [library, second] = numbers(&trail);

@@ -1,56 +1,46 @@
-use mathlib.Core.Path.{_≡_, sym, ap, _∙_}
-use mathlib.Core.Logic.{⊎-elim}
-use lib.ListN.{length}
+use Prim.Native.Nat.{ℕ}
+use mathlib.Core.Path.{sym, _∙_}
 use Rattle.rules.specs.Machine.{Machine}
-use Rattle.rules.specs.Access.{storePasses, realOf}
-use Rattle.storage.specs.Answers.{machine, told, seen}
-use Rattle.access.proofs.Reals.{translated, as-it-is, tested}
+use Rattle.rules.specs.Steps.{Steps}
+use Rattle.rules.specs.Access.{storeTest}
+use Rattle.storage.specs.Answers.{machine}
+use Rattle.storage.proofs.Laws.{begin, fresh}
+use Rattle.storage.proofs.Stages.{Tested, tests, passed, stopped}
 use borrow.Author.Needs.{needs}
 use Rattle.access.proofs.logical.store_test.Statement.{statement}
 use Rattle.access.proofs.logical.store_test.Tie as tie
 
-abbrev start : tie.Joined1 → tie.Start
-start c = c .before .before .before .before
-
 abbrev entry : tie.Start → Machine
 entry c = machine (c .args .storage .now) (c .args .keys .now)
 
--- where both ways have met: the real address
-resolved : (c : tie.Joined1)
-    → let a = start c .args in
-    told (c .if1 .walked) (a .storage .now) (c .if1 .keys) ≡ seen (realOf (a .guest) (a .at)) (entry (start c))
-resolved c =
-    let a = start c .args in
-    let s = a .storage .now in
-    let dat = sym (c .before .dat-on .ensures) in
-    ⊎-elim
-    (λ w. translated (a .guest) (a .at) _ s _ _ _ _ (dat ∙ w .0 .taken) (w .2 .ensures) (w .6) (w .5))
-    (λ w. as-it-is (a .guest) (a .at) _ s _ _ (dat ∙ w .0 .left) (w .2) (w .1))
-    (c .if1 .came)
+abbrev stage : tie.Start → Steps ℕ
+stage c = storeTest (c .args .guest) (c .args .at)
 
-same-length : tie.Need-same-length
-same-length c =
-    let test = c .before .before in
-    let met = test .before .before .before in
-    test .walked-test .kept .0
-    ∙ ⊎-elim (λ w. ap length (w .5) ∙ w .2 .kept .1 .0) (λ w. ap length (w .1)) (met .if1 .came)
+-- low-address protection
+abbrev low : tie.After-protects-low → Tested entry stage
+unfolding storeTest
+low c =
+    let start = c .before .before .before in
+    tests start _ _ _ (begin (entry start) (stage start)) (c .protects-low .result) (c .protects-low .ensures)
 
 returns : tie.Need-returns
-returns c =
-    let test = c .before .before in
-    let met = test .before .before .before in
-    let a = start met .args in
-    simp (test .before .psw-key .ensures) at
-    (test .walked-test .ensures (realOf (a .guest) (a .at)) (entry (start met)) (a .storage .now) (resolved met))
-    ∙ ap (λ p. seen p (entry (start met))) (tested storePasses (a .guest) (a .at))
+unfolding storeTest low
+returns c = stopped (low (c .before)) (c .if1 .taken)
+
+returns-2 : tie.Need-returns-2
+unfolding storeTest low
+returns-2 c =
+    let made = c .before .before in
+    let on = made .before .before in
+    let here = passed (low (on .before)) (on .if1 .left) in
+    fresh _ _ (made .store-access .ensures) ∙ sym (here .runs .so)
 
 pub store-test-spec : {M : Type 1} → statement M
 store-test-spec =
     tie.close
     (tie.spec
     (λ c κs. search needs)
+    returns
     (λ c κs. search needs)
-    (λ c κs. search needs)
-    (λ c κs. search needs)
-    same-length
-    returns)
+    (λ c. search needs)
+    returns-2)

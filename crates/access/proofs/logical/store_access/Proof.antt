@@ -2,12 +2,12 @@ use mathlib.Core.Path.{_≡_, sym, ap, _∙_}
 use mathlib.Core.Logic.{⊎-elim}
 use lib.ListN.{length}
 use Rattle.rules.specs.Machine.{Machine}
-use Rattle.rules.specs.Access.{fetchPasses, realOf}
+use Rattle.rules.specs.Access.{storePasses, realOf}
 use Rattle.storage.specs.Answers.{machine, told, seen}
 use Rattle.access.proofs.Reals.{translated, as-it-is, tested}
 use borrow.Author.Needs.{needs}
-use Rattle.access.proofs.logical.fetch_test.Statement.{statement}
-use Rattle.access.proofs.logical.fetch_test.Tie as tie
+use Rattle.access.proofs.logical.store_access.Statement.{statement}
+use Rattle.access.proofs.logical.store_access.Tie as tie
 
 abbrev start : tie.Joined1 → tie.Start
 start c = c .before .before .before .before
@@ -42,10 +42,10 @@ returns c =
     let a = start met .args in
     simp (test .before .psw-key .ensures) at
     (test .walked-test .ensures (realOf (a .guest) (a .at)) (entry (start met)) (a .storage .now) (resolved met))
-    ∙ ap (λ p. seen p (entry (start met))) (tested fetchPasses (a .guest) (a .at))
+    ∙ ap (λ p. seen p (entry (start met))) (tested storePasses (a .guest) (a .at))
 
-pub fetch-test-spec : {M : Type 1} → statement M
-fetch-test-spec =
+pub store-access-spec : {M : Type 1} → statement M
+store-access-spec =
     tie.close
     (tie.spec
     (λ c κs. search needs)

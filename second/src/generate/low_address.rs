@@ -1,0 +1,86 @@
+//! Operands at and near the logical addresses 0 to 511, which bit 3 of control register 0 protects against operand
+//! stores (document 02, R-6).
+
+use super::draft::{Draft, Items, Role};
+use super::random::Random;
+use super::tables::Mapping;
+use crate::address::{add, subtract, ADDRESS_MASK};
+use crate::guest::Guest;
+use crate::setup::LOW_ADDRESS_PROTECTION;
+
+/// Share of the operand stores that are built near these addresses, in percent.
+const NEAR: u32 = 25;
+
+/// The first logical address that is not protected.
+const FIRST_OPEN: u32 = 512;
+
+/// So that a call completes, bit 3 is zero if any item is at a low address; else it stays.
+pub fn permit(guest: &mut Guest, start: u32, items: Items) {
+    if items.addresses(start).any(|logical| logical < FIRST_OPEN) {
+        guest.control_register_0 &= !LOW_ADDRESS_PROTECTION;
+    }
+}
+
+pub fn turn_over(guest: &mut Guest) {
+    guest.control_register_0 ^= LOW_ADDRESS_PROTECTION;
+}
+
+/// In part a logical address near the low ones at which the items can be stored, if there is one. With DAT on their
+/// pages are mapped.
+pub fn place(draft: &mut Draft, mapping: &mut Option<Mapping>, items: Items) -> Option<u32> {
+    if !draft.random.percent(NEAR) {
+        return None;
+    }
+    for _ in 0..20 {
+        let start = near(&mut draft.random, items);
+        let placed = match mapping {
+            Some(mapping) => mapping.map_items(draft, start, items),
+            None => draft.take_stored(start, items.count * items.length),
+        };
+        if placed {
+            return Some(start);
+        }
+    }
+    None
+}
+
+/// Items that end or begin at 512 or lie on both sides of it, that begin at 0 or go round to it, or any near there.
+fn near(random: &mut Random, items: Items) -> u32 {
+    let back = |items_before: u32| items.length * items_before;
+    let start = match random.below(8) {
+        0..=2 => subtract(FIRST_OPEN, back(random.below(items.count + 1))),
+        3..=4 => subtract(0, back(random.below(items.count))),
+        5..=6 => random.pick(&[508, 510, 511, 516]),
+        _ => random.below(520),
+    };
+    start - start % items.length
+}
+
+/// Bit 3 one, the operand near the low addresses, or both.
+pub fn damage(draft: &mut Draft) {
+    let kind = draft.random.below(5);
+    if kind != 0 {
+        draft.guest.control_register_0 |= LOW_ADDRESS_PROTECTION;
+    }
+    if kind < 3 {
+        move_operand(draft);
+    }
+}
+
+fn move_operand(draft: &mut Draft) {
+    let Some(place) = draft.find(&[Role::SecondHalfword]) else {
+        return;
+    };
+    let halfword = draft.image.word(place.address) >> 16;
+    let (base, displacement) = (halfword >> 12, halfword & 0xFFF);
+    // STCTL's words in part not on their boundary.
+    let odd = draft.random.pick(&[0, 0, 0, 2]);
+    let items = if draft.first_halfword >> 8 == 0xB6 { draft.store_control_items() } else { Items::BYTE };
+    let start = add(near(&mut draft.random, items), odd);
+    if base == 0 {
+        draft.image.put_halfword(place.address, (start & 0xFFF) as u16);
+    } else {
+        let register = &mut draft.guest.general_registers[base as usize];
+        *register = *register & !ADDRESS_MASK | subtract(start, displacement);
+    }
+}

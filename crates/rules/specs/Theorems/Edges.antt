@@ -1,4 +1,5 @@
--- The marked edges of document 01, "Edges to show": one table, under one statement. Numbers are hex; DAT off.
+-- The marked edges of document 01, "Edges to show": one table, under one statement. Then edges of recording and of
+-- low-address protection, each a table of its own. Numbers are hex; DAT is off but where it is said to be on.
 -- Edges that document 01 calls expanded stand with the expanded assist installed and not.
 use Prim.Native.Nat.{ℕ}
 use mathlib.Core.Bool.{Bool, true, false}
@@ -168,27 +169,27 @@ lowAddressEdges =
     (0x06 ∷ 0x00 ∷ [])
     ∷ completes (pageApart (0x00 ∷ 0x00 ∷ 0x04 ∷ 0x00 ∷ [])) (protecting (callWith 0x0812 0 true)) 8 0x1e
     (store 0xe0 4 0x08003e00 ∷ []) (0x06 ∷ 0x00 ∷ 0x38 ∷ 0x00 ∷ [])
-    -- STNSM at 511 with bit 3 zero; with bit 3 one; and at 512, where the virtual PSW's byte at 18 is stored too
+    -- STNSM at 1FF (511) with bit 3 zero; with bit 3 one; at 200 (512), where the virtual PSW's byte is stored too
     ∷ completes (stnsmAt 0x1ff) stnsm 7 0x20 (store 0x1ff 1 0x07 ∷ store 0x18 1 0x04 ∷ []) (0x06 ∷ 0x00 ∷ [])
     ∷ protectedAfter (stnsmAt 0x1ff) stnsm 4
     ∷ completes (stnsmAt 0x200) (protecting stnsm) 7 0x20 (store 0x200 1 0x07 ∷ store 0x18 1 0x04 ∷ [])
     (0x06 ∷ 0x00 ∷ [])
-    -- STCTL at 508 with bit 3 zero; with bit 3 one; and at 512
+    -- STCTL at 1FC (508) with bit 3 zero; with bit 3 one; and at 200
     ∷ completes (stctlAt 0x1fc) stctlOfOne 6 0x20 (store 0x1fc 4 6 ∷ []) (0x06 ∷ 0x00 ∷ [])
     ∷ protectedAfter (stctlAt 0x1fc) stctlOfOne 4
     ∷ completes (stctlAt 0x200) (protecting stctlOfOne) 6 0x20 (store 0x200 4 6 ∷ []) (0x06 ∷ 0x00 ∷ [])
-    -- at 510, which is not on a word: refused by step 4
+    -- at 1FE (510), which is not on a word: refused by step 4
     ∷ endsWith (stctlAt 0x1fe) (protecting stctlOfOne) 1 2 3 (0x04 ∷ 0x00 ∷ [])
-    -- two words, at 508 and 512: neither is stored
+    -- two words, at 1FC and 200: neither is stored
     ∷ protectedAfter (stctlAt 0x1fc) (callWith 0xb601 0 false) 5
-    -- round the top with bit 3 zero: words at FFFFFC and 000000; with bit 3 one: ends after the first word's test
+    -- round the top, DAT on; bit 3 zero: words at FFFFFC and 000000; bit 3 one: ends after the first word's test
     ∷ completes lastPage roundTheTop 15 0x20 (store 0xffc 4 1 ∷ store 0x000 4 2 ∷ []) (0x06 ∷ 0x06 ∷ [])
     ∷ protectedAfter lastPage roundTheTop 10
-    -- protection comes before translation
+    -- with DAT on, protection comes before translation
     ∷ protectedAfter segmentInvalid (translating (callOf (guestWith 0x10001c 0 0x80000008) 0xacfc false)) 6
     ∷ []
 
--- Every row gives what document 01 says: the ending, the count, the next address, and every byte and key.
+-- Every row gives what the papers say: the ending, the count, the next address, and every byte and key.
 abbrev pub EdgesHold : Type 0
 EdgesHold = Hold edges
 

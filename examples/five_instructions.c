@@ -1,5 +1,5 @@
 /*
- * A guest's storage with its control blocks and tables; then each of the five instructions, and three calls that end
+ * A guest's storage with its control blocks and tables; then each of the five instructions, and four calls that end
  * otherwise. What happened is printed in words; five_instructions.expected has what must be, worked out by hand.
  */
 #include "vma.h"
@@ -129,6 +129,8 @@ int main(void)
     run("SSK", guest);
     run("STCTL", guest);             /* a page of the operand isn't there: the guest is interrupted */
     guest[VMA_PSW_32_63] = 0x003016; /* as after the interruption; now SSM would turn the virtual mask's bit 5 off */
+    run("SSM", guest);               /* the expanded assist is installed, but not switched on */
+    guest[VMA_CONTROL_6] |= 0x02000000;
     run("SSM", guest);
     print_answer("none", 0, vma_attempt(NULL, 0, NULL, 0, guest, 0x8000, true));
     return 0;

@@ -39,7 +39,8 @@ enum {
     VMA_GENERAL = 2,         /* general register r is word VMA_GENERAL + r */
     VMA_CONTROL_0 = 18,      /* real control register 0: bit 3 is low-address protection, bits 8-12 the format */
     VMA_CONTROL_1 = 19,      /* real control register 1 */
-    VMA_CONTROL_6 = 20,      /* real control register 6: bits 0-7 control the assist, bits 8-28 are MICBLOK's address */
+    VMA_CONTROL_6 = 20,      /* real control register 6: bits 0-3 control the assist, bit 6 switches the expanded assist
+                                on, bits 8-28 are MICBLOK's address */
     VMA_GUEST_WORDS = 21
 };
 
@@ -50,7 +51,8 @@ enum {
  * keys, key_count          the keys, and how many there are
  * guest                    PSW bits 0-31, PSW bits 32-63, general registers 0-15, control registers 0, 1 and 6
  * first_halfword           the first halfword of the instruction; it isn't fetched, and needn't be in storage
- * expanded_installed       whether the expanded virtual-machine assist is installed
+ * expanded_installed       whether the expanded virtual-machine assist is installed; an instruction that needs it is
+ *                          handed over if bit 6 of control register 6 is one too, else interrupted with code 2
  *
  * Every call is answered, whatever the sizes, bytes, keys, words and halfword are: the answer says how it ended. On
  * completion (VMA_COMPLETED) the instruction's stores and its setting of a key are done, and guest holds the record
@@ -77,7 +79,7 @@ uint64_t vma_attempt(uint8_t *storage, size_t storage_bytes, uint8_t *keys, size
 enum {
     VMA_COMPLETED = 0,
     VMA_INTERRUPTION = 1,        /* program interruption: vma_code is the interruption code */
-    VMA_EXPANDED = 2,            /* handed to the expanded assist */
+    VMA_EXPANDED = 2,            /* handed to the expanded assist, which is installed and switched on */
     VMA_FIELD_MISSING = 3,       /* a control field, or SSK's key block, is not in storage: vma_code is the step */
     VMA_WRONG_MODE = 9,          /* real PSW bit 12 or bit 15 is zero */
     VMA_WRONG_STORAGE_SIZE = 10, /* not a multiple of 2,048, or outside 2,048 to 16,777,216 */

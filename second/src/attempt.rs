@@ -108,8 +108,8 @@ pub struct CountedAnswer {
     pub guest: Guest,
 }
 
-/// One attempt on lent storage and keys. Any input gets a numbered ending. Accesses are recorded in the keys, and what
-/// was recorded before an ending stays.
+/// One attempt on lent storage and keys; `expanded` says whether the expanded assist is installed. Any input gets a
+/// numbered ending. Accesses are recorded in the keys, and what was recorded before an ending stays.
 pub fn attempt(
     storage: &mut [u8],
     keys: &mut [u8],

@@ -20,6 +20,7 @@ pub struct StorageImage {
 pub struct Request {
     pub guest: Guest,
     pub first_halfword: u16,
+    /// Whether the expanded assist is installed.
     pub expanded: bool,
 }
 

@@ -1,5 +1,7 @@
 //! The numbered endings of document 01.
 
+use crate::guest::Guest;
+
 /// What a program interruption reports. Codes 16 and 17 carry a logical address.
 #[derive(Clone, Copy, Debug, PartialEq, Eq)]
 pub enum Exception {
@@ -43,9 +45,11 @@ impl Ending {
     /// "Refuse" means interruption 2.
     pub const REFUSE: Ending = Ending::Interruption(Exception::PrivilegedOperation);
 
-    /// "Expanded" means ending 2 if the expanded assist is installed, else interruption 2.
-    pub fn expanded(installed: bool) -> Ending {
-        if installed {
+    /// "Expanded" means ending 2 if the expanded assist is installed and control register 6 bit 6 is one, else
+    /// interruption 2 (document 02, R-3). Figure 3 of document 002 wants ones in bits 0 and 6 for this assist; step 1
+    /// of the instructions that come here has found bit 0 one.
+    pub fn expanded(installed: bool, guest: &Guest) -> Ending {
+        if installed && guest.expanded_switched_on() {
             Ending::ExpandedAssist
         } else {
             Ending::REFUSE
@@ -120,5 +124,30 @@ fn exception_words(exception: Exception) -> String {
 impl From<Exception> for Ending {
     fn from(exception: Exception) -> Ending {
         Ending::Interruption(exception)
+    }
+}
+
+#[cfg(test)]
+mod tests {
+    use super::*;
+
+    #[test]
+    fn expanded_needs_the_assist_and_bit_6() {
+        let with_register = |control_register_6: u32| Guest {
+            psw_0_31: 0xFFFF_FFFF,
+            psw_32_63: 0xFFFF_FFFF,
+            general_registers: [0xFFFF_FFFF; 16],
+            control_register_0: 0xFFFF_FFFF,
+            control_register_1: 0xFFFF_FFFF,
+            control_register_6,
+        };
+        for bit in 0..32 {
+            let alone = with_register(0x8000_0000 >> bit);
+            let all_others = with_register(!(0x8000_0000 >> bit));
+            let [one, zero] = [alone, all_others].map(|guest| Ending::expanded(true, &guest));
+            assert_eq!(one, if bit == 6 { Ending::ExpandedAssist } else { Ending::REFUSE });
+            assert_eq!(zero, if bit == 6 { Ending::REFUSE } else { Ending::ExpandedAssist });
+            assert_eq!([alone, all_others].map(|guest| Ending::expanded(false, &guest)), [Ending::REFUSE; 2]);
+        }
     }
 }

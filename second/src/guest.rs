@@ -53,6 +53,12 @@ impl Guest {
         word_bit(self.control_register_0, 3)
     }
 
+    /// Control register 6 bit 6: switches the expanded assist on (document 02, R-3).
+    #[inline]
+    pub fn expanded_switched_on(&self) -> bool {
+        word_bit(self.control_register_6, 6)
+    }
+
     /// A general register; only the four rightmost bits of the number are used.
     #[inline]
     pub fn general_register(&self, number: u32) -> u32 {

@@ -1,5 +1,6 @@
 //! Independent second implementation, from documents 01 and 02 alone, of five instructions of the assist, with
-//! low-address protection and reference and change recording, and of the trail of calls.
+//! low-address protection, reference and change recording and the expanded assist switched on by control
+//! register 6, and of the trail of calls.
 
 #![forbid(unsafe_code)]
 

@@ -20,7 +20,7 @@ const BITS_6_7: u8 = 0x03;
 pub fn set_system_mask(
     machine: &mut Machine<impl References>,
     guest: &Guest,
-    expanded: bool,
+    installed: bool,
 ) -> Result<(), Ending> {
     // (1) Control register 6 bits 0-1 not 10: refuse.
     machine.step = 1;
@@ -52,22 +52,22 @@ pub fn set_system_mask(
     let virtual_psw = fetch_virtual_psw(machine, micvpsw)?;
     // (9)
     machine.step = 9;
-    check_new_mask(virtual_psw, new, micvpsw.pending, expanded)?;
+    check_new_mask(virtual_psw, new, micvpsw.pending, Ending::expanded(installed, guest))?;
     // (10) Store byte 0.
     machine.step = 10;
     machine.store(micvpsw.address, [new]);
     Ok(())
 }
 
-/// Step 9.
-fn check_new_mask(virtual_psw: VirtualPsw, new: u8, pending: bool, expanded: bool) -> Result<(), Ending> {
+/// Step 9; `expanded` is the ending that "expanded" means for this call. In BC mode it plays no part.
+fn check_new_mask(virtual_psw: VirtualPsw, new: u8, pending: bool, expanded: Ending) -> Result<(), Ending> {
     let old = virtual_psw.byte_0;
     if virtual_psw.ec_mode {
         let bit_1_or_5_would_change = (old ^ new) & BITS_1_5 != 0;
         let bits_0_2_3_4_not_zero = new & BITS_0_2_3_4 != 0;
         let bit_6_or_7_goes_to_one = going_to_one(old, new) & BITS_6_7 != 0;
         if bit_1_or_5_would_change || bits_0_2_3_4_not_zero || (pending && bit_6_or_7_goes_to_one) {
-            return Err(Ending::expanded(expanded));
+            return Err(expanded);
         }
     } else if pending && going_to_one(old, new) != 0 {
         return Err(Ending::REFUSE);

@@ -26,6 +26,9 @@ pub const PSW_DAT: u32 = 0x0400_0000;
 /// Control register 0 bit 3.
 pub const LOW_ADDRESS_PROTECTION: u32 = 0x1000_0000;
 
+/// Control register 6 bit 6.
+pub const EXPANDED_ON: u32 = 0x0200_0000;
+
 /// Second byte of the virtual PSW: bit 12 alone, and all but bit 12.
 pub const VIRTUAL_EC: u8 = 0x08;
 pub const VIRTUAL_BC: u8 = 0xF7;
@@ -131,8 +134,15 @@ impl Setup {
         self
     }
 
+    /// The expanded assist is installed.
     pub fn expanded(mut self) -> Setup {
         self.expanded = true;
+        self
+    }
+
+    /// It is switched on: bit 6 of control register 6, whose other bits stay; after `control_register_6`.
+    pub fn switched_on(mut self) -> Setup {
+        self.guest.control_register_6 |= EXPANDED_ON;
         self
     }
 

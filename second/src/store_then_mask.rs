@@ -35,7 +35,7 @@ pub fn store_then_mask(
     guest: &Guest,
     connective: Connective,
     immediate: u8,
-    expanded: bool,
+    installed: bool,
 ) -> Result<(), Ending> {
     // (1) As STCTL.
     machine.step = 1;
@@ -53,7 +53,7 @@ pub fn store_then_mask(
     let old = virtual_psw.byte_0;
     let new = connective.apply(old, immediate);
     if needs_expanded(connective, virtual_psw, new, micvpsw.pending) {
-        return Err(Ending::expanded(expanded));
+        return Err(Ending::expanded(installed, guest));
     }
     // (5) Second halfword; any access exception: refuse.
     machine.step = 5;

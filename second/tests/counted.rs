@@ -2,7 +2,7 @@
 
 use std::collections::BTreeSet;
 
-use second::fixed::{bad_calls, figures, impostor_lists, low_addresses, mask_bits};
+use second::fixed::{bad_calls, expanded_assist, figures, impostor_lists, low_addresses, mask_bits};
 use second::generate::{generate, generate_chain, generate_of_size, LARGEST_LARGE, MIB};
 use second::{attempt_counted, edges, Request, StorageImage};
 
@@ -31,19 +31,20 @@ fn every_edge() {
     for edge in &all {
         compare(&edge.image, [&edge.request]);
     }
-    // 66 in at most 4 MiB, 6 in more.
-    assert_eq!(all.len(), 72);
+    // 80 in at most 4 MiB, 6 in more.
+    assert_eq!(all.len(), 86);
 }
 
 #[test]
 fn every_fixed_case() {
-    let lists = [figures(), mask_bits(), bad_calls(), low_addresses(), impostor_lists()].concat();
+    let lists =
+        [figures(), mask_bits(), bad_calls(), low_addresses(), expanded_assist(), impostor_lists()].concat();
     let calls: usize = lists
         .iter()
         .map(|list| compare(&list.image, list.calls.iter().map(|call| &call.request)).len())
         .sum();
-    // docs/VECTORS.md: 88, 288, 66 and 8.
-    assert_eq!(calls, 450);
+    // docs/VECTORS.md: 88, 288, 66, 79 and 8.
+    assert_eq!(calls, 529);
 }
 
 #[test]

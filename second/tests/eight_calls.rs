@@ -2,8 +2,9 @@
 
 /// Counts. Call 1: MICCREG, register 0, second halfword (2), operand (2), MICVPSW, virtual PSW, store. Call 2:
 /// MICCREG, second halfword (2), four registers, tests and stores. Call 3: MICCREG, second halfword (4), register
-/// 5, segment entry, page entry. Call 4: as call 1 without the store; the operand is AE since call 2. Call 5: five
-/// fields. Call 6: two keys and the store more.
+/// 5, segment entry, page entry. Call 4: as call 1 without the store; the operand is AE since call 2, the expanded
+/// assist is installed and bit 6 of control register 6 is one (document 02, R-3). Call 5: five fields. Call 6: two keys
+/// and the store more.
 const CALLS: &str = "\
 start: refusal 0, held 0, trailer 00000000 00000000 00000000 00000001
 call 1, guest 7, 8000: ending 0, code 0, count 9, next 001004, translation 000000; \
@@ -62,7 +63,7 @@ const BUFFER: &str = "\
 000180: 00000003 00000009 80000102 00000008 00001000 00000000 000900CD AB001000
 0001A0: C0DE0000 C0DE0011 5A001FF0 ABCDEF3F 5A023000 C0DE0055 C0DE0066 C0DE0077
 0001C0: C0DE0088 C0DE0099 C0DE00AA C0DE00BB C0DE00CC C0DE00DD C0DE00EE C0DE00FF
-0001E0: 00800000 FF003000 80000400 00000000 00000000 00000000 00000000 00000000
+0001E0: 00800000 FF003000 82000400 00000000 00000000 00000000 00000000 00000000
 000200: 00000004 00000007 08340003 000B0005 00001000 00000000 000900CD AB001000
 000220: C0DE0000 C0DE0011 5A001FF0 ABCDEF3F 5A022000 C0DE0055 C0DE0066 C0DE0077
 000240: C0DE0088 C0DE0099 C0DE00AA C0DE00BB C0DE00CC C0DE00DD C0DE00EE C0DE00FF

@@ -196,7 +196,8 @@ fn after_every_earlier_step() {
     expect(&setup.clone().instruction(0x3FFE, 0x3FFE), REFUSED, 2);
     expect(&setup.psw_key(1).key(2, 0x28), REFUSED, 3);
     let setup = stosm().operand(0).low_address_protection();
-    expect(&setup.clone().pending().expanded(), EXPANDED, 2);
+    expect(&setup.clone().pending().expanded().switched_on(), EXPANDED, 2);
+    expect(&setup.clone().pending().expanded(), REFUSED, 2);
     expect(&setup.pending(), REFUSED, 2);
     let setup = Setup::stctl(4, 5).operand(0x1FC).low_address_protection();
     expect(&setup.clone().instruction(0x3FFE, 0x3FFE), ADDRESSING, 1);

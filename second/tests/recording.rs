@@ -144,9 +144,11 @@ fn what_was_recorded_before_an_ending_stays() {
     assert_eq!(expect(&halfword, PROTECTION, 3).keys, [(0, 0x02, 0x06)]);
     let operand = ssm.clone().psw_key(1).key(4, 0x29);
     assert_eq!(expect(&operand, PROTECTION, 5).keys, [(0, 0x02, 0x06), (2, 0x00, 0x04)]);
-    // New 84: all has been read, nothing is stored.
+    // New 84: all has been read, nothing is stored; handed over, or refused as bit 6 is zero.
     let expanded = Setup::ssm([0x04, VIRTUAL_EC], 0x84).expanded();
-    assert_eq!(expect(&expanded, EXPANDED, 8).keys, [(0, 0x00, 0x04), (2, 0x00, 0x04), (4, 0x00, 0x04)]);
+    let keys = [(0, 0x00, 0x04), (2, 0x00, 0x04), (4, 0x00, 0x04)];
+    assert_eq!(expect(&expanded, REFUSED, 8).keys, keys);
+    assert_eq!(expect(&expanded.switched_on(), EXPANDED, 8).keys, keys);
 }
 
 /// DAT on, 2K pages: segment table in block 6 (3000), page table in block 7 (3800).

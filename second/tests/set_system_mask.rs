@@ -47,7 +47,7 @@ fn step_1_control_register_6() {
             expect(&setup, REFUSED, 0);
         }
     }
-    // Bits 2-7 and 29-31 do not matter.
+    // Bits 2-7 and 29-31 do not matter to a call that completes.
     expect(&ssm().control_register_6(0xBF00_0007 | MICBLOK), COMPLETED, 9);
 }
 
@@ -78,7 +78,7 @@ fn steps_2_3_7_8_not_in_storage() {
 #[test]
 fn step_4_virtual_register_0_bit_1() {
     expect(&ssm().word(ECBLOK, 0x4000_0000), REFUSED, 2);
-    expect(&ssm().word(ECBLOK, 0x4000_0000).expanded(), REFUSED, 2);
+    expect(&ssm().word(ECBLOK, 0x4000_0000).expanded().switched_on(), REFUSED, 2);
     expect(&ssm().word(ECBLOK, 0xBFFF_FFFF), COMPLETED, 9);
     // Real control register 0 bit 1 has no effect.
     let mut setup = ssm();
@@ -123,13 +123,8 @@ fn step_9_ec_mode() {
         (0x80, 0x80, EXPANDED, EXPANDED),
     ];
     for (old, new, quiet, pending) in cases {
-        let setup = Setup::ssm([old, VIRTUAL_EC], new).expanded();
         let count = |ending: (u32, u32, u32)| if ending.0 == 0 { 9 } else { 8 };
-        expect(&setup, quiet, count(quiet));
-        expect(&setup.pending(), pending, count(pending));
-        let not_installed = Setup::ssm([old, VIRTUAL_EC], new);
-        let ending = if quiet == EXPANDED { REFUSED } else { quiet };
-        expect(&not_installed, ending, count(ending));
+        expect_mask(&Setup::ssm([old, VIRTUAL_EC], new), quiet, pending, count);
     }
 }
 
@@ -145,9 +140,13 @@ fn step_9_bc_mode() {
         (0xA5, 0xA4, COMPLETED),
         (0xA5, 0xA6, REFUSED),
     ] {
-        let setup = Setup::ssm([old, VIRTUAL_BC], new).expanded();
-        expect(&setup, COMPLETED, 9);
-        expect(&setup.pending(), pending, if pending == COMPLETED { 9 } else { 8 });
+        let setup = Setup::ssm([old, VIRTUAL_BC], new);
+        // The expanded assist plays no part.
+        let installed = setup.clone().expanded();
+        for setup in [setup.clone(), setup.switched_on(), installed.clone(), installed.switched_on()] {
+            expect(&setup, COMPLETED, 9);
+            expect(&setup.pending(), pending, if pending == COMPLETED { 9 } else { 8 });
+        }
     }
 }
 

@@ -82,14 +82,11 @@ fn step_4_and() {
         (0x00, 0x00, COMPLETED),
         (0x44, 0x44, COMPLETED),
     ] {
-        let setup = Setup::stnsm([old, VIRTUAL_EC], immediate);
         let count = |ending: (u32, u32, u32)| if ending == COMPLETED { 7 } else { 2 };
-        expect(&setup.clone().expanded(), ec, count(ec));
         // The pending bit plays no part in STNSM.
-        expect(&setup.clone().expanded().pending(), ec, count(ec));
-        let not_installed = if ec == EXPANDED { REFUSED } else { ec };
-        expect(&setup, not_installed, count(ec));
-        let ran = expect(&Setup::stnsm([old, VIRTUAL_BC], immediate).pending().expanded(), COMPLETED, 7);
+        expect_mask(&Setup::stnsm([old, VIRTUAL_EC], immediate), ec, ec, count);
+        let bc = Setup::stnsm([old, VIRTUAL_BC], immediate).pending().expanded().switched_on();
+        let ran = expect(&bc, COMPLETED, 7);
         let stored: Vec<u8> = ran.bytes.iter().map(|change| change.2).collect();
         if old & immediate != old {
             assert_eq!(stored, [old & immediate, old]);
@@ -115,11 +112,7 @@ fn step_4_or() {
     ] {
         let count = |ending: (u32, u32, u32)| if ending == COMPLETED { 7 } else { 2 };
         for (second_byte, quiet) in [(VIRTUAL_EC, ec), (VIRTUAL_BC, bc)] {
-            let setup = Setup::stosm([old, second_byte], immediate);
-            expect(&setup.clone().expanded(), quiet, count(quiet));
-            expect(&setup.clone().expanded().pending(), pending, count(pending));
-            let not_installed = if pending == EXPANDED { REFUSED } else { pending };
-            expect(&setup.pending(), not_installed, count(pending));
+            expect_mask(&Setup::stosm([old, second_byte], immediate), quiet, pending, count);
         }
     }
 }
@@ -127,7 +120,7 @@ fn step_4_or() {
 #[test]
 fn step_5_any_access_exception_refuses() {
     for setup in both() {
-        let setup = setup.expanded();
+        let setup = setup.expanded().switched_on();
         expect(&setup.clone().instruction(0x3FFE, 0x3FFE), REFUSED, 2);
         expect(&setup.clone().psw_key(1).key(2, 0x28).key(4, 0x10), REFUSED, 3);
         // DAT: format (no entry), segment invalid (1), page entry outside (1), page invalid (2), format (2).

@@ -34,6 +34,9 @@ const PAGES_4K_SEGMENTS_64K: u32 = 0x00800000;
 // Control register 0 bit 3.
 const LOW_ADDRESS_PROTECTION: u32 = 0x10000000;
 
+// Control register 6 bit 6.
+const EXPANDED_ASSIST: u32 = 0x02000000;
+
 const USUAL_SIZE: usize = 0x4000;
 
 const DISPLACEMENT: u32 = 0x010;
@@ -54,6 +57,7 @@ pub(crate) struct Edge {
     general: [u32; 16],
     cr0: u32,
     cr1: u32,
+    cr6: u32,
     // the words and keys that differ from those of every set-up, one after another; at each place the latest stays
     places: [u32; ROOM],
     values: [u32; ROOM],
@@ -69,7 +73,7 @@ impl Edge {
             general,
             cr0: self.cr0,
             cr1: self.cr1,
-            cr6: 0x80000000 + MICBLOK,
+            cr6: self.cr6,
         }
     }
 
@@ -115,6 +119,7 @@ impl Edge {
             general: [0; 16],
             cr0: 0,
             cr1: 0,
+            cr6: 0x80000000 + MICBLOK,
             places: [NOWHERE; ROOM],
             values: [0; ROOM],
             count: 0,
@@ -172,10 +177,20 @@ impl Edge {
         self.word(MICVPSW, 0x80000000 + VIRTUAL_PSW)
     }
 
-    // The expanded assist is installed.
-    pub(crate) fn expanded(mut self) -> Edge {
+    pub(crate) fn expanded_installed(mut self) -> Edge {
         self.installed = true;
         self
+    }
+
+    // These bits of control register 6 are one too.
+    pub(crate) fn control_register_6(mut self, bits: u32) -> Edge {
+        self.cr6 = self.cr6 | bits;
+        self
+    }
+
+    // Bit 6 of control register 6 is one.
+    pub(crate) fn expanded_on(self) -> Edge {
+        self.control_register_6(EXPANDED_ASSIST)
     }
 
     // The operand at this logical address.

@@ -26,10 +26,11 @@ pub(crate) type Storage = [u8; STORAGE_BYTES];
 
 pub(crate) type Keys = [u8; KEY_COUNT];
 
-// Edges that stand in one file.
+// Edges that stand in one function.
 pub(crate) enum Group {
     StoreControl,
-    SystemMasks,
+    SetSystemMask,
+    StoreThenMask,
     SetStorageKey,
     Recording,
     LowAddresses,
@@ -39,7 +40,8 @@ pub(crate) enum Group {
 fn edge_of(group: Group, number: usize) -> Edge {
     match group {
         Group::StoreControl => store_control::edge(number),
-        Group::SystemMasks => system_masks::edge(number),
+        Group::SetSystemMask => system_masks::set_edge(number),
+        Group::StoreThenMask => system_masks::store_then_edge(number),
         Group::SetStorageKey => set_storage_key::edge(number),
         Group::Recording => recording::edge(number),
         Group::LowAddresses => low_addresses::edge(number),

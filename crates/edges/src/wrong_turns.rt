@@ -55,7 +55,10 @@ pub(crate) fn edge(number: usize) -> Edge {
         6 => Edge::stnsm(0x07, EC, 0xFC).instruction_at_top(),
         7 => Edge::stnsm(0x07, EC, 0xFC).instruction_fetch_protected(),
         8 => Edge::stnsm(0x07, EC, 0xFC).instruction_not_mapped(),
-        9 => Edge::stosm(0x07, EC, 0x03).instruction_at_top().expanded(),
+        9 => Edge::stosm(0x07, EC, 0x03)
+            .instruction_at_top()
+            .expanded_installed()
+            .expanded_on(),
         10 => Edge::stosm(0x07, EC, 0x03).instruction_fetch_protected(),
         11 => Edge::stosm(0x07, EC, 0x03).instruction_not_mapped(),
         12 => Edge::stctl(0x55).instruction_at_top(),

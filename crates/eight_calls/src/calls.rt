@@ -39,6 +39,8 @@ fn guest(number: u32) -> Guest {
     match number {
         // DAT on
         3 => guest.psw = 0x040900CDAB001000,
+        // the expanded assist switched on, by bit 6
+        4 => guest.cr6 = 0x82000400,
         // page 2 in place of page 3
         5 => guest.general[4] = 0x5A022000,
         // an odd instruction address

@@ -7,9 +7,10 @@ pub mod Attempt
 use Prim.Native.Nat.{ℕ, _+_, _^_, _≤_, _<_}
 use native.Mathlib.Omega.{arith}
 use mathlib.Core.Path.{_≡_, refl}
-use mathlib.Core.Bool.{Bool, true, false, cond, true≢false}
+use mathlib.Core.Bool.{Bool, true, false, cond, _&&_, true≢false}
 use lib.ListN.{length}
 use lib.Dec.{eqb}
+use Rattle.rules.specs.Bits.{bit}
 use Rattle.rules.specs.Guest.{Guest, advance}
 use Rattle.rules.specs.Endings.{
   Ending,
@@ -48,7 +49,7 @@ pub stops : {op : ℕ} {e : Ending} → listed (table op) (numbers e .number) (n
 stops l z n = record { possible = possible l z; short = n }
 
 pub stops-expanded : (op : ℕ) → Stops op Expanded → Stops op refuse → (c : Call) → Stops op (expanded c)
-stops-expanded op h k c = go (c .installed)
+stops-expanded op h k c = go (c .installed && bit 32 6 (c .guest .cr6))
   where
     go : (b : Bool) → Stops op (cond b Expanded refuse)
     go true = h

@@ -1,10 +1,10 @@
 -- A call, document 01's word for one attempt with all that is fixed beforehand: its fields, and what its completion
 -- leaves to do.
 use Prim.Native.Nat.{ℕ}
-use mathlib.Core.Bool.{cond}
+use mathlib.Core.Bool.{cond, _&&_}
 use mathlib.Core.List.{List}
 use Rattle.rules.specs.Guest.{Guest, advance}
-use Rattle.rules.specs.Bits.{halfword}
+use Rattle.rules.specs.Bits.{bit, halfword}
 use Rattle.rules.specs.Writes.{Write}
 use Rattle.rules.specs.Endings.{Ending, Expanded, refuse}
 use Rattle.rules.specs.Steps.{Steps, done}
@@ -27,9 +27,11 @@ r3 = r2
 abbrev pub immediate : Call → ℕ
 immediate c = halfword 8 15 (c .first)
 
--- document 01's "expanded": handed over where the expanded assist is installed, else refused
+-- Document 01's "expanded", as document 02, R-3 has it: handed over where the expanded assist is installed and bit 6 of
+-- control register 6 is one, else refused. Document 002, Figure 3: it wants ones in bits 0 and 6. Bit 0 is one wherever
+-- this is asked, since step 1 of each instruction refuses any other.
 abbrev pub expanded : Call → Ending
-expanded c = cond (c .installed) Expanded refuse
+expanded c = cond (c .installed && bit 32 6 (c .guest .cr6)) Expanded refuse
 
 -- the record handed back, and the writes in order
 pub record Completion : Type 0 where

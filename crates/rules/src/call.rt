@@ -37,11 +37,12 @@ impl Call {
         (self.first % 256) as u32
     }
 
-    // Document 01's "expanded": handed over where the expanded assist is installed, else refused.
+    // Document 01's "expanded": handed over where the expanded assist is installed and switched on by bit 6 of control
+    // register 6 (document 002, Figure 3), else refused.
     pub fn expanded(self) -> Ending
         ensures { λ r. ⌜ r ≡ expanded self ⌝ }
     {
-        if self.installed {
+        if self.installed & (self.guest.cr6 / 33554432 % 2 == 1) {
             return Ending::Expanded;
         }
         Ending::Interruption(Exception::PrivilegedOperation)

@@ -28,7 +28,7 @@ Makes one attempt at the instruction whose first halfword is HEX (4 hex digits),
                   comment. In this order: PSW bits 0-31, PSW bits 32-63, general registers 0-15, control
                   registers 0, 1 and 6. The PSW holds the address of this instruction.
   --first HEX     the first halfword of the instruction
-  --expanded      the expanded assist is installed
+  --expanded      the expanded assist is installed; bit 6 of control register 6 switches it on
 
 Prints the ending, the count of references, the next instruction address, and each byte, key and word of the
 record that changed, old -> new. If the attempt completes, the three files are written anew. Any other ending

@@ -98,10 +98,19 @@ fn translation() {
 fn expanded_assist() {
     // The fields are in block 0, the second halfword in 2, the operand in 4.
     let recorded = [(0, 0x00, 0x04), (2, 0x00, 0x04), (4, 0x00, 0x04)];
-    expect(&ssm(0x84), "1 program interruption, code 2 privileged operation", 8, &recorded);
-    let mut installed = ssm(0x84);
-    installed.expanded = true;
-    expect(&installed, "2 handed to the expanded assist", 8, &recorded);
+    // Installed, and switched on by bit 6 of control register 6.
+    let refused = "1 program interruption, code 2 privileged operation";
+    for (installed, control_6, ending) in [
+        (true, 0x8200_0400, "2 handed to the expanded assist"),
+        (true, 0x8000_0400, refused),
+        (true, 0xBD00_0400, refused),
+        (false, 0x8200_0400, refused),
+        (false, 0x8000_0400, refused),
+    ] {
+        let mut case = altered(ssm(0x84), 20, control_6);
+        case.expanded = installed;
+        expect(&case, ending, 8, &recorded);
+    }
 }
 
 #[test]

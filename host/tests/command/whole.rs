@@ -8,7 +8,7 @@ const SHOWN: [&str; 13] = [
      0 completed; 9 references; next instruction address 001004\n      storage 000600: 04 -> 07\n      \
      key of block 0 (000000-0007FF): 00 -> 06\n      key of block 2 (001000-0017FF): 00 -> 04\n      \
      key of block 4 (002000-0027FF): 00 -> 04\n\n",
-    "  (*) EC, old 04, new 84, expanded installed\n      \
+    "  (*) EC, old 04, new 84, expanded installed, bit 6 one\n      \
      2 handed to the expanded assist; 8 references; next instruction address 001000\n      \
      key of block 0 (000000-0007FF): 00 -> 04\n      key of block 2 (001000-0017FF): 00 -> 04\n      \
      key of block 4 (002000-0027FF): 00 -> 04\n\n",
@@ -48,7 +48,7 @@ const SHOWN: [&str; 13] = [
 fn demo() {
     let run = vma(&["demo"]);
     assert_eq!((run.status, run.messages.as_str()), (Some(0), ""));
-    assert!(run.output.ends_with("\n72 edges; each answer is the second program's\n"));
+    assert!(run.output.ends_with("\n86 edges; each answer is the second program's\n"));
     for expected in SHOWN {
         assert!(run.output.contains(expected), "{expected}");
     }

@@ -1,5 +1,5 @@
-//! Every edge of document 01, section "Edges to show", those of recording (document 02, R-13) and of low-address
-//! protection, as a concrete call.
+//! Every edge of document 01, section "Edges to show", those that come to "expanded" with control register 6 bit 6 both
+//! ways (document 02, R-3), those of recording and of low-address protection, as a concrete call.
 
 mod large;
 mod low_address_edges;

@@ -61,7 +61,7 @@ fn second_halfword_as_itself() -> Vec<Edge> {
         Edge::new(
             false,
             "wrong turn 3: second halfword not in storage, refuse even with expanded",
-            &stosm.clone().instruction(top, top).expanded(),
+            &stosm.clone().instruction(top, top).expanded().switched_on(),
         ),
         Edge::new(false, "wrong turn 3: second halfword fetch-protected, refuse", &protect(stosm.clone())),
         Edge::new(false, "wrong turn 3: second halfword page invalid, refuse", &not_mapped(stosm)),

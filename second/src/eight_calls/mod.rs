@@ -5,7 +5,7 @@ mod lines;
 use crate::attempt::attempt_counted;
 use crate::call::{Request, StorageImage};
 use crate::guest::Guest;
-use crate::setup::virtual_register;
+use crate::setup::{virtual_register, EXPANDED_ON};
 use crate::trail::{start, write, Entry, RECORD_LENGTH, TRAILER_LENGTH};
 
 pub use lines::text;
@@ -77,7 +77,9 @@ pub fn calls() -> [GuestCall; 8] {
         call(9, 0xAC07, odd_address),
         call(7, 0x0700, guest()),
     ];
+    // Ending 2 needs both (document 02, R-3).
     calls[3].request.expanded = true;
+    calls[3].request.guest.control_register_6 |= EXPANDED_ON;
     calls
 }
 

@@ -37,7 +37,7 @@ fn address_cases() -> Vec<FixedList> {
     let place = around_micblok(place, DECOY, &[MICCREG, MICVPSW]).word(DECOY, 0xBBBB_BBBB);
     let place = around(place, extcr(0), 0xBB).word(extcr(0).address, 0xBBBB_BBBB);
     let place = place.word(0, 0xBBBB_BBBB).word(4, 0xBBBB_BBBB).word(8, 0xBBBB_BBBB);
-    let mask = Setup::ssm([0x04, VIRTUAL_EC], 0x07).expanded();
+    let mask = Setup::ssm([0x04, VIRTUAL_EC], 0x07).expanded().switched_on();
     let not_pending = around_micblok(mask.clone(), 0x8000_0000 | DECOY, &[MICCREG, MICVPSW]);
     let not_pending = not_pending.word(MICCREG.address, 0x8000_0500).word(0x500, 0x8000_0000);
     let pending = around_micblok(mask, DECOY, &[MICCREG, MICVPSW]).pending();

@@ -17,7 +17,7 @@ fn misplaced(setup: Setup) -> Setup {
 
 fn store_then_and() -> Vec<FixedList> {
     let stnsm = Setup::stnsm([0x47, VIRTUAL_EC], 0xFC);
-    let ec = around(Setup::stnsm([0x47, VIRTUAL_EC], 0x00), VMPSW, 0x00).expanded();
+    let ec = around(Setup::stnsm([0x47, VIRTUAL_EC], 0x00), VMPSW, 0x00).expanded().switched_on();
     let bc = around(Setup::stnsm([0x47, VIRTUAL_BC], 0x00), VMPSW, 0x4C);
     let operand = around(stnsm.clone(), OPERAND_BYTE, 0xEE);
     vec![
@@ -31,11 +31,12 @@ fn store_then_and() -> Vec<FixedList> {
 
 fn store_then_or() -> Vec<FixedList> {
     let stosm = Setup::stosm([0x04, VIRTUAL_EC], 0x03);
-    let ec = around(Setup::stosm([0x04, VIRTUAL_EC], 0x40), VMPSW, 0x00).expanded();
+    let ec = around(Setup::stosm([0x04, VIRTUAL_EC], 0x40), VMPSW, 0x00).expanded().switched_on();
     let bc = around(Setup::stosm([0x04, VIRTUAL_BC], 0x83), VMPSW, 0x4C);
     let operand = around(stosm.clone(), OPERAND_BYTE, 0xEE);
-    let not_pending = around_micblok(stosm.clone(), 0x8000_0000 | DECOY, &[MICVPSW]).expanded();
-    let pending = around_micblok(stosm.clone(), DECOY, &[MICVPSW]).pending().expanded();
+    let mask = stosm.clone().expanded().switched_on();
+    let not_pending = around_micblok(mask.clone(), 0x8000_0000 | DECOY, &[MICVPSW]);
+    let pending = around_micblok(mask, DECOY, &[MICVPSW]).pending();
     vec![
         FixedList::one("figure 18: MICVPSW at 8", &misplaced(stosm.clone()), &[MICVPSW]),
         FixedList::one("figure 18: MICVPSW bit 0 zero among ones: not pending", &not_pending, &[]),

@@ -1,5 +1,6 @@
 //! Every bit of the system mask by itself: going to one, going to zero, staying one; EC and BC mode, pending or not.
-//! Random masks change several bits at once, so that a wrong rule for one of them would seldom show.
+//! Random masks change several bits at once, so that a wrong rule for one of them would seldom show. The expanded
+//! assist is installed and switched on, so that "expanded" is told from "refuse"; the other ways are in `expanded`.
 
 use super::FixedList;
 use crate::setup::{Setup, VIRTUAL_BC, VIRTUAL_EC};
@@ -50,7 +51,7 @@ pub fn cases() -> Vec<FixedList> {
                 for &going in goings {
                     cases.extend((0..8).map(|bit| {
                         let (old, new) = going.bytes(0x80 >> bit);
-                        let mut setup = setup([old, second_byte], new).expanded();
+                        let mut setup = setup([old, second_byte], new).expanded().switched_on();
                         if pending {
                             setup = setup.pending();
                         }

@@ -1,6 +1,7 @@
 //! Fixed calls that open every file of calls: the manual's figures 13 to 18, every bit of the system mask,
-//! bad calls in every combination, low-address protection, and the impostors' lists.
+//! bad calls in every combination, low-address protection, the expanded assist switched on, and the impostors' lists.
 
+mod expanded;
 mod figure_13;
 mod figure_14;
 mod figure_15;
@@ -88,6 +89,11 @@ pub fn bad_calls() -> Vec<FixedList> {
 /// Low-address protection, each case a list of one call.
 pub fn low_addresses() -> Vec<FixedList> {
     low_addresses::cases()
+}
+
+/// The expanded assist switched on, each case a list of one call.
+pub fn expanded_assist() -> Vec<FixedList> {
+    expanded::cases()
 }
 
 pub fn impostor_lists() -> Vec<FixedList> {

@@ -100,12 +100,17 @@ fn byte_operand(
     draft.note(Role::Operand, real);
     permit(draft, real, store);
     let value = completing_value(draft, instruction, (old, ec_mode), pending);
-    if store {
-        draft.first_halfword = draft.first_halfword & 0xFF00 | u16::from(value);
-    } else {
-        draft.image.put(real, &[value]);
-    }
+    put_value(draft, instruction, real, value);
     logical
+}
+
+/// The new mask is SSM's operand, at this real address; for STNSM and STOSM the value is the immediate.
+pub fn put_value(draft: &mut Draft, instruction: Instruction, operand: u32, value: u8) {
+    if instruction == Instruction::SetSystemMask {
+        draft.image.put(operand, &[value]);
+    } else {
+        draft.first_halfword = draft.first_halfword & 0xFF00 | u16::from(value);
+    }
 }
 
 /// Logical and real address of SSM's operand.
@@ -132,7 +137,7 @@ fn stored_byte(draft: &mut Draft, mapping: &mut Option<Mapping>, virtual_psw: u3
 }
 
 /// New mask (SSM) or immediate (STNSM, STOSM) with which the instruction completes.
-fn completing_value(draft: &mut Draft, instruction: Instruction, old: (u8, bool), pending: bool) -> u8 {
+pub fn completing_value(draft: &mut Draft, instruction: Instruction, old: (u8, bool), pending: bool) -> u8 {
     let (old, ec_mode) = old;
     let value = draft.random.byte();
     match (instruction, ec_mode, pending) {

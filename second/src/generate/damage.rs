@@ -2,6 +2,7 @@
 
 use super::damage_fields::damage_field;
 use super::draft::{Draft, Role};
+use super::expanded;
 use super::low_address;
 use super::sizes::MOST_KEYS;
 use crate::address::{add, subtract, ADDRESS_MASK};
@@ -18,12 +19,12 @@ pub fn damage(draft: &mut Draft) {
         18..=23 => move_micblok(draft),
         24..=28 => draft.guest.control_register_0 ^= 1 << (19 + draft.random.below(5)),
         29..=34 => control_register_1(draft),
-        35..=42 => mask_values(draft),
-        43..=46 => keys(draft),
-        47..=52 => operand_address(draft),
-        53..=55 => instruction_address(draft),
-        56..=58 => registers(draft),
-        59..=60 => draft.expanded = !draft.expanded,
+        35..=39 => mask_values(draft),
+        40..=44 => expanded::damage(draft),
+        45..=48 => keys(draft),
+        49..=54 => operand_address(draft),
+        55..=57 => instruction_address(draft),
+        58..=60 => registers(draft),
         61..=63 => smaller_storage(draft),
         64..=74 => low_address::damage(draft),
         _ => damage_field(draft),

@@ -9,7 +9,7 @@ use crate::guest::Guest;
 use crate::setup::LOW_ADDRESS_PROTECTION;
 
 /// Share of the operand stores that are built near these addresses, in percent.
-const NEAR: u32 = 25;
+const NEAR: u32 = 33;
 
 /// The first logical address that is not protected.
 const FIRST_OPEN: u32 = 512;
@@ -56,7 +56,7 @@ fn near(random: &mut Random, items: Items) -> u32 {
     start - start % items.length
 }
 
-/// Bit 3 one, the operand near the low addresses, or both.
+/// Bit 3 one, the operand near the low addresses, or both; in part the tables too.
 pub fn damage(draft: &mut Draft) {
     let kind = draft.random.below(5);
     if kind != 0 {
@@ -64,6 +64,26 @@ pub fn damage(draft: &mut Draft) {
     }
     if kind < 3 {
         move_operand(draft);
+    }
+    if draft.guest.dat_on() && draft.random.percent(30) {
+        damage_tables(draft);
+    }
+}
+
+/// The low addresses are in page 0 of segment 0: one of the two entries gives an exception, which protection comes
+/// before.
+fn damage_tables(draft: &mut Draft) {
+    let segment_entry = draft.guest.control_register_1 & 0x00FF_FFC0;
+    let word = draft.image.word(segment_entry);
+    let page_entry = word & 0x00FF_FFF8;
+    match draft.random.below(4) {
+        0 => draft.image.put_word(segment_entry, word | 0x0000_0001),
+        1 => draft.image.put_word(segment_entry, word | 0x0100_0000),
+        // Bit 12 is the invalid bit of 4K pages, bit 13 that of 2K pages.
+        _ => {
+            let entry = draft.image.word(page_entry) >> 16 | 0x000C;
+            draft.image.put_halfword(page_entry, entry as u16);
+        }
     }
 }
 

@@ -5,6 +5,7 @@ mod build_key;
 mod damage;
 mod damage_fields;
 mod draft;
+mod expanded;
 mod low_address;
 mod pair;
 mod random;
@@ -83,14 +84,17 @@ fn chain_random(seed: u64, index: u64) -> Random {
     Random::new(seed ^ 0x6368_6169_6E00_0000, index)
 }
 
-/// Some calls of a list repeat an earlier request, half of these with bit 3 of control register 0 turned over.
+/// Some calls of a list repeat an earlier request: half of these with bit 3 of control register 0 turned over, a
+/// quarter with bit 6 of control register 6.
 fn chain(mut draft: Draft, length: usize) -> Chain {
     let mut requests: Vec<Request> = Vec::new();
     while requests.len() < length {
         if !requests.is_empty() && draft.random.percent(25) {
             let mut repeated = draft.random.pick(&requests);
-            if draft.random.percent(50) {
-                low_address::turn_over(&mut repeated.guest);
+            match draft.random.below(4) {
+                0..=1 => low_address::turn_over(&mut repeated.guest),
+                2 => expanded::turn_over(&mut repeated.guest),
+                _ => {}
             }
             requests.push(repeated);
             continue;
@@ -98,8 +102,9 @@ fn chain(mut draft: Draft, length: usize) -> Chain {
         draft.start_request();
         draft = built(draft);
         match draft.random.below(100) {
-            0..=29 => damage_but_sizes(&mut draft),
-            30..=41 => low_address::damage(&mut draft),
+            0..=24 => damage_but_sizes(&mut draft),
+            25..=34 => expanded::damage(&mut draft),
+            35..=46 => low_address::damage(&mut draft),
             _ => {}
         }
         requests.push(draft.request());

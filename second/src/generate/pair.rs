@@ -4,7 +4,7 @@
 use super::draft::{Draft, Room};
 use super::random::Random;
 use super::twin::twin;
-use super::{build, damage_but_sizes};
+use super::{build, damage_but_sizes, expanded};
 use crate::attempt::Instruction;
 use crate::call::Request;
 use crate::pairs::{keep_to_their_parts, Pair};
@@ -90,7 +90,8 @@ impl Blocks {
     }
 }
 
-/// The first request of a list is SSK; later ones are any, some repeated, a few damaged.
+/// The first request of a list is SSK; later ones are any, some repeated, a few damaged or such that they come to
+/// "expanded".
 fn next_request(draft: &mut Draft, earlier: &[Request], psw_key: u32) -> Request {
     if !earlier.is_empty() && draft.random.percent(20) {
         return draft.random.pick(earlier);
@@ -100,8 +101,10 @@ fn next_request(draft: &mut Draft, earlier: &[Request], psw_key: u32) -> Request
     let instruction =
         if earlier.is_empty() { Instruction::SetStorageKey } else { draft.random.pick(&Instruction::ALL) };
     build::build(draft, instruction);
-    if draft.random.percent(10) {
-        damage_but_sizes(draft);
+    match draft.random.below(100) {
+        0..=9 => damage_but_sizes(draft),
+        10..=15 => expanded::damage(draft),
+        _ => {}
     }
     draft.request()
 }

@@ -4,7 +4,9 @@ mod singles;
 pub mod text;
 
 use crate::call::{Request, StorageImage};
-use crate::fixed::{bad_calls, figures, impostor_lists, low_addresses, mask_bits, FixedList};
+use crate::fixed::{
+    bad_calls, expanded_assist, figures, impostor_lists, low_addresses, mask_bits, FixedList,
+};
 use crate::generate::{generate_chain_of_size, generate_pair, Random, SizeBudget};
 use crate::report::{micrseg, Tally};
 use singles::Singles;
@@ -97,6 +99,7 @@ impl VectorSet {
         self.shares.single = self.fixed_lists("Every bit of the system mask", &mask_bits());
         self.shares.single += self.fixed_lists("Bad calls: every combination", &bad_calls());
         self.shares.single += self.fixed_lists("Low-address protection", &low_addresses());
+        self.shares.single += self.fixed_lists("Expanded assist switched on", &expanded_assist());
         self.shares.in_lists = self.fixed_lists("Lists for the impostors", &impostor_lists());
     }
 

@@ -78,3 +78,22 @@ pub fn expect(setup: &Setup, ending: (u32, u32, u32), count: usize) -> Ran {
     assert_eq!(ran.keys, changes(&keys_before, &keys));
     ran
 }
+
+/// What a new mask gives without and with a pending interruption, where the expanded assist is installed and switched
+/// on; with either or neither of these, "expanded" is a refusal (document 02, R-3).
+pub fn expect_mask(
+    setup: &Setup,
+    quiet: (u32, u32, u32),
+    pending: (u32, u32, u32),
+    count: impl Fn((u32, u32, u32)) -> usize,
+) {
+    let installed = setup.clone().expanded();
+    let both = installed.clone().switched_on();
+    expect(&both, quiet, count(quiet));
+    expect(&both.pending(), pending, count(pending));
+    let refused = |ending: (u32, u32, u32)| if ending == EXPANDED { REFUSED } else { ending };
+    for setup in [setup.clone(), installed, setup.clone().switched_on()] {
+        expect(&setup, refused(quiet), count(quiet));
+        expect(&setup.pending(), refused(pending), count(pending));
+    }
+}

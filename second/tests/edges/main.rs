@@ -1,5 +1,5 @@
 //! Every edge against values worked out by hand from document 01, with the keys as document 02, R-13 has them,
-//! and those of low-address protection.
+//! and those of low-address protection; with control register 6 bit 6 as R-3 has it.
 //!
 //! Set-up (see `setup.rs`): 16 KiB, PSW key zero, DAT off, instruction at 1000, operand at 2000, MICBLOK at 400,
 //! ECBLOK at 500, virtual PSW at 600. Virtual register r is the word A0B0C0D0 + r times 01010101.
@@ -78,13 +78,44 @@ fn storage_of_the_edges() {
     assert_eq!(large()[1].image.key_count, 8_193);
 }
 
-/// 45 small edges and 4 large ones are those of document 01, recording and the wrong turns.
+/// 45 small edges and 4 large ones are those of document 01, recording and the wrong turns; 14 more since document 02,
+/// R-3, and 21 and 2 of low-address protection.
 #[test]
 fn number_of_edges() {
-    assert_eq!((small().len(), large().len()), (45 + 21, 4 + 2));
+    assert_eq!((small().len(), large().len()), (45 + 14 + 21, 4 + 2));
     let case = |place: usize| small()[place].case.clone();
-    assert!(case(25).contains("store test records nothing") && case(26).contains("bit 3"));
-    assert!(case(46).contains("bit 3") && case(47).starts_with("wrong turn 1"));
+    assert!(case(39).contains("store test records nothing") && case(40).contains("bit 3"));
+    assert!(case(60).contains("bit 3") && case(61).starts_with("wrong turn 1"));
+}
+
+/// Document 01 marks three edges of STCTL, five of SSM, two of STNSM, one of STOSM, which is given in both modes, and
+/// two of SSK. With bit 6 both ways are two of SSM and one of STNSM, which are expanded, and SSM's refusal in BC mode.
+#[test]
+fn marked_edges() {
+    let marked =
+        |mnemonic: &str| small().iter().filter(|edge| edge.marked && edge.mnemonic() == mnemonic).count();
+    let counts = ["STCTL", "SSM", "STNSM", "STOSM", "SSK"].map(marked);
+    assert_eq!(counts, [3, 5 + 3, 2 + 1, 2, 2]);
+    assert!(large().iter().all(|edge| !edge.marked));
+}
+
+/// The titles say how bit 6 and the flag are. Of the other bits of control register 6 bit 0 is one, beside MICBLOK's
+/// address, but where a title says otherwise.
+#[test]
+fn set_up_of_bit_6() {
+    for edge in small().iter().chain(&large()) {
+        let (case, request) = (&edge.case, &edge.request);
+        let wrong_turn_3 = case.ends_with("refuse even with expanded");
+        let installed = case.contains("expanded installed") || wrong_turn_3;
+        assert_eq!(request.expanded, installed, "{case}");
+        let bits = match case {
+            case if case.contains("bits 2-5 and 7 one, bit 6 zero") => 0xBD,
+            case if case.contains("bits 2, 4, 5 and 7 one, bit 6 zero") => 0xAD,
+            case if case.contains("bit 6 one") || wrong_turn_3 => 0x82,
+            _ => 0x80,
+        };
+        assert_eq!(request.guest.control_register_6 >> 24, bits, "{case}");
+    }
 }
 
 #[test]

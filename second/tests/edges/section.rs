@@ -1,6 +1,8 @@
-//! The list of edges in document 01. Keys, which are 00 at first but where it says otherwise: block 0 has MICBLOK,
-//! ECBLOK and virtual PSW, block 1 the tables of SSK, block 2 the instruction, block 4 the operand; what is read gets
-//! 04, what is stored 06 (document 02, R-13).
+//! The list of edges in document 01, those marked expanded with control register 6 bit 6 both ways (document 02, R-3):
+//! handed over if the assist is installed and the bit is one, else interruption 2.
+//!
+//! Keys, which are 00 at first but where it says otherwise: block 0 has MICBLOK, ECBLOK and virtual PSW, block 1 the
+//! tables of SSK, block 2 the instruction, block 4 the operand; what is read gets 04, what is stored 06.
 
 use crate::expected::*;
 
@@ -113,27 +115,46 @@ pub fn set_system_mask() -> Vec<Expected> {
     let ended = |case, ending| expect(("SSM", case), ending, 8, &[], &SSM_READ, 0x1000);
     vec![
         completed("EC, old 04, new 07", 0x04, 0x07),
-        ended("EC, old 04, new 07, pending, expanded installed", EXPANDED),
-        ended("EC, old 04, new 07, pending, expanded not installed", REFUSED),
-        ended("EC, old 04, new 84, expanded installed", EXPANDED),
-        ended("EC, old 04, new 84, expanded not installed", REFUSED),
+        ended("EC, old 04, new 07, pending, expanded installed, bit 6 one", EXPANDED),
+        ended("EC, old 04, new 07, pending, expanded installed, bit 6 zero", REFUSED),
+        ended("EC, old 04, new 07, pending, expanded not installed, bit 6 one", REFUSED),
+        ended("EC, old 04, new 07, pending, expanded not installed, bit 6 zero", REFUSED),
+        ended("EC, old 04, new 84, expanded installed, bit 6 one", EXPANDED),
+        ended("EC, old 04, new 84, expanded installed, bit 6 zero", REFUSED),
+        ended("EC, old 04, new 84, expanded not installed, bit 6 one", REFUSED),
+        ended("EC, old 04, new 84, expanded not installed, bit 6 zero", REFUSED),
+        ended("EC, old 04, new 84, expanded installed, bits 2-5 and 7 one, bit 6 zero", REFUSED),
         completed("BC, pending, old FF, new 00", 0xFF, 0x00),
-        ended("BC, pending, old 00, new 01, expanded installed", REFUSED),
-        ended("BC, pending, old 00, new 01, expanded not installed", REFUSED),
+        // "Refuse, even with the expanded assist", switched on or not.
+        ended("BC, pending, old 00, new 01, expanded installed, bit 6 one", REFUSED),
+        ended("BC, pending, old 00, new 01, expanded installed, bit 6 zero", REFUSED),
+        ended("BC, pending, old 00, new 01, expanded not installed, bit 6 one", REFUSED),
+        ended("BC, pending, old 00, new 01, expanded not installed, bit 6 zero", REFUSED),
     ]
 }
 
 /// STNSM and STOSM counts: MICVPSW, virtual PSW: 2; halfword 2, key of the operand 1, two stores: 7.
 pub fn store_then() -> Vec<Expected> {
     let completed = |name, bytes: &[Change]| expect(name, COMPLETED, 7, bytes, &STORE_THEN_STORED, 0x1004);
-    let ended = |case, ending| expect(("STNSM", case), ending, 2, &[], &STORE_THEN_READ, 0x1000);
+    let ended = |name, ending| expect(name, ending, 2, &[], &STORE_THEN_READ, 0x1000);
+    let stnsm = |case| ("STNSM", case);
+    let stosm = |case| ("STOSM", case);
     vec![
-        completed(("STNSM", "EC, old 07, AND FC"), &[(0x600, 0x07, 0x04), (0x2000, 0x00, 0x07)]),
-        ended("EC, old 07, AND F8, expanded installed", EXPANDED),
-        ended("EC, old 07, AND F8, expanded not installed", REFUSED),
+        completed(stnsm("EC, old 07, AND FC"), &[(0x600, 0x07, 0x04), (0x2000, 0x00, 0x07)]),
+        // 07 AND F8 is 00: bit 5 goes to zero.
+        ended(stnsm("EC, old 07, AND F8, expanded installed, bit 6 one"), EXPANDED),
+        ended(stnsm("EC, old 07, AND F8, expanded installed, bit 6 zero"), REFUSED),
+        ended(stnsm("EC, old 07, AND F8, expanded not installed, bit 6 one"), REFUSED),
+        ended(stnsm("EC, old 07, AND F8, expanded not installed, bit 6 zero"), REFUSED),
+        ended(stnsm("EC, old 07, AND F8, expanded installed, bits 2, 4, 5 and 7 one, bit 6 zero"), REFUSED),
         // 07 OR 03 is 07: no bit goes to one, and the virtual PSW byte is stored with the same value.
-        completed(("STOSM", "EC, pending, old 07, OR 03"), &[(0x2000, 0x00, 0x07)]),
-        completed(("STOSM", "BC, pending, old 07, OR 03"), &[(0x2000, 0x00, 0x07)]),
+        completed(stosm("EC, pending, old 07, OR 03"), &[(0x2000, 0x00, 0x07)]),
+        completed(stosm("BC, pending, old 07, OR 03"), &[(0x2000, 0x00, 0x07)]),
+        // Bit 0 goes to one; pending, and bits 6 and 7 go to one.
+        ended(stosm("EC, old 07, OR 87, expanded installed, bit 6 one"), EXPANDED),
+        ended(stosm("EC, old 07, OR 87, expanded installed, bit 6 zero"), REFUSED),
+        ended(stosm("BC, pending, old 04, OR 03, expanded installed, bit 6 one"), EXPANDED),
+        ended(stosm("BC, pending, old 04, OR 03, expanded installed, bit 6 zero"), REFUSED),
     ]
 }
 

@@ -1,9 +1,10 @@
 //! The fixed calls of every file of calls against values worked out by hand from document 01, with the keys as document
-//! 02, R-13 has them.
+//! 02, R-13 has them and "expanded" as R-3 has it.
 //!
 //! Set-up (see `setup.rs`): 16 KiB, PSW key zero, DAT off, instruction at 1000, operand at 2000, MICBLOK at 400,
 //! ECBLOK at 500, virtual PSW at 600. Virtual register r is the word A0B0C0D0 + r times 01010101.
 
+mod expanded;
 #[path = "../common/expected.rs"]
 mod expected;
 mod figures_13_14;
@@ -17,7 +18,9 @@ use std::collections::BTreeMap;
 
 use expected::Expected;
 use second::call::changes;
-use second::fixed::{bad_calls, figures, impostor_lists, low_addresses, mask_bits, Field, FixedList};
+use second::fixed::{
+    bad_calls, expanded_assist, figures, impostor_lists, low_addresses, mask_bits, Field, FixedList,
+};
 use second::{Call, ReferenceKind};
 
 #[test]
@@ -62,7 +65,9 @@ fn check(lists: &[FixedList], expectations: &[Expected]) {
 
 #[test]
 fn every_case_fits_in_a_comment() {
-    for list in [figures(), mask_bits(), bad_calls(), low_addresses(), impostor_lists()].iter().flatten() {
+    let lists =
+        [figures(), mask_bits(), bad_calls(), low_addresses(), expanded_assist(), impostor_lists()].concat();
+    for list in &lists {
         for call in &list.calls {
             assert!(
                 call.case.is_ascii() && call.mnemonic().len() + 1 + call.case.len() <= 77,

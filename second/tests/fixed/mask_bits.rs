@@ -38,7 +38,7 @@ const BITS: [(&str, &str, &str, u8); 28] = [
     ("STOSM", "BC, pending", "stays one", 0x00),
 ];
 
-/// The expanded assist is installed: it is ending 2, but for SSM in BC mode, which refuses.
+/// The expanded assist is installed and switched on: it is ending 2, but for SSM in BC mode, which refuses.
 fn ending_by_hand(mnemonic: &str, state: &str) -> (u32, u32) {
     if mnemonic == "SSM" && state.starts_with("BC") {
         (1, 2)

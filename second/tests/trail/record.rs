@@ -123,7 +123,9 @@ fn taken_from_calls() {
     assert_eq!(taken(&Setup::ssm(ec, 0x07)), (0, 0, 9, 0x1004, 0));
     assert_eq!(taken(&Setup::ssk()), (0, 0, 8, 0x1002, 0));
     assert_eq!(taken(&Setup::ssm(ec, 0x84)), (1, 2, 8, 0x1000, 0));
-    assert_eq!(taken(&Setup::ssm(ec, 0x84).expanded()), (2, 0, 8, 0x1000, 0));
+    // The flag is that of the call, whether bit 6 of control register 6 is one or zero (`taken` looks at it).
+    assert_eq!(taken(&Setup::ssm(ec, 0x84).expanded().switched_on()), (2, 0, 8, 0x1000, 0));
+    assert_eq!(taken(&Setup::ssm(ec, 0x84).expanded()), (1, 2, 8, 0x1000, 0));
     // The ECBLOK is at FFFFF0, so virtual register 0 is not in storage.
     assert_eq!(taken(&Setup::ssm(ec, 7).word(0x404, 0xFF_FFF0)), (3, 3, 1, 0x1000, 0));
     // No segment table entry at all (zero): page index 1 exceeds length 0. Entries: MICVPSW, virtual PSW, segment

@@ -1,5 +1,6 @@
 //! Files of calls: read back, sizes, contents, and what the stored set reaches.
 
+mod expanded;
 mod large;
 mod low_addresses;
 mod pairs_in_file;
@@ -9,6 +10,7 @@ mod recording;
 
 use std::sync::OnceLock;
 
+use expanded::ExpandedTally;
 use low_addresses::LowAddressTally;
 use reader::{read, Crc, ReadCall};
 use recording::RecordingTally;
@@ -28,6 +30,7 @@ struct ReadSet {
     tally: Tally,
     recording: RecordingTally,
     low_addresses: LowAddressTally,
+    expanded: ExpandedTally,
     storage_sizes: Vec<usize>,
     most_keys: usize,
     /// Calls on each storage, in the order of the file.
@@ -36,18 +39,19 @@ struct ReadSet {
 
 fn read_set(set: &VectorSet) -> ReadSet {
     let (mut tally, mut recording) = (Tally::default(), RecordingTally::default());
-    let mut low_addresses = LowAddressTally::default();
+    let (mut low_addresses, mut expanded) = (LowAddressTally::default(), ExpandedTally::default());
     let (mut storage_sizes, mut calls_on_storage, mut most_keys) = (Vec::new(), Vec::new(), 0);
     let printed = read(set.stdin(), &mut |call: &ReadCall, answer: &Answer| {
         tally.add(&call.request, micrseg(call.storage, &call.request), answer);
         recording.add(call, answer);
         low_addresses.add(call, answer);
+        expanded.add(call, answer);
         storage_sizes.push(call.storage.len());
         most_keys = most_keys.max(call.keys.len());
         calls_on_storage.resize(call.storage_number, 0);
         calls_on_storage[call.storage_number - 1] += 1;
     });
-    ReadSet { printed, tally, recording, low_addresses, storage_sizes, most_keys, calls_on_storage }
+    ReadSet { printed, tally, recording, low_addresses, expanded, storage_sizes, most_keys, calls_on_storage }
 }
 
 /// The stored set as it is read back from its text.
@@ -138,6 +142,7 @@ fn form_of_the_stored_set() {
         "# Every bit of the system mask",
         "# Bad calls: every combination",
         "# Low-address protection",
+        "# Expanded assist switched on",
         "# Lists for the impostors",
         "# Single calls",
         "# Lists of calls on one storage",

@@ -1,9 +1,8 @@
 -- The marked edges of document 01, "Edges to show": one table, under one statement. Then edges of recording and of
 -- low-address protection, each a table of its own. Numbers are hex; DAT is off but where it is said to be on.
--- Edges that document 01 calls expanded stand with the expanded assist installed and not.
 use Prim.Native.Nat.{ℕ}
 use mathlib.Core.Bool.{Bool, true, false}
-use mathlib.Core.List.{List, [], _∷_}
+use mathlib.Core.List.{List, [], _∷_, _++_}
 use Rattle.rules.specs.Machine.{Machine}
 use Rattle.rules.specs.Writes.{Write, store}
 use Rattle.rules.specs.Call.{Call}
@@ -16,6 +15,7 @@ use Rattle.rules.specs.Theorems.Samples.{
   machineWith,
   guestWith,
   callOf,
+  callBy,
   callWith,
   protecting,
   translating,
@@ -34,17 +34,26 @@ abbrev ssm : (pending : Bool) (first operand : ℕ) → List Write → Row
 ssm pending first operand stores =
     completes (masks pending first operand) (callWith 0x8000 0 true) 9 0x20 stores (0x06 ∷ 0x00 ∷ [])
 
-abbrev ssmEnds : (installed pending : Bool) (first operand number code : ℕ) → Row
-ssmEnds installed pending first operand number code =
-    endsWith (masks pending first operand) (callWith 0x8000 0 installed) number code 8 (0x04 ∷ 0x00 ∷ [])
+abbrev ssmEnds : (pending : Bool) (first operand : ℕ) → (installed on : Bool) (number code : ℕ) → Row
+ssmEnds pending first operand installed on number code =
+    endsWith (masks pending first operand) (callBy 0x8000 0 installed on) number code 8 (0x04 ∷ 0x00 ∷ [])
 
 abbrev storeThen : (instruction : ℕ) (pending : Bool) (first : ℕ) → List Write → Row
 storeThen instruction pending first stores =
     completes (masks pending first 0) (callWith instruction 0 true) 7 0x20 stores (0x06 ∷ 0x00 ∷ [])
 
-abbrev storeThenEnds : (instruction : ℕ) (installed pending : Bool) (first number code : ℕ) → Row
-storeThenEnds instruction installed pending first number code =
-    endsWith (masks pending first 0) (callWith instruction 0 installed) number code 2 (0x04 ∷ 0x00 ∷ [])
+abbrev storeThenEnds : (instruction first : ℕ) → (installed on : Bool) (number code : ℕ) → Row
+storeThenEnds instruction first installed on number code =
+    endsWith (masks false first 0) (callBy instruction 0 installed on) number code 2 (0x04 ∷ 0x00 ∷ [])
+
+-- "Expanded", by whether the expanded assist is installed and whether bit 6 of control register 6 is one (document 02,
+-- R-3): handed over with both, else refused
+abbrev expands : ((installed on : Bool) (number code : ℕ) → Row) → List Row
+expands ends = ends true true 2 0 ∷ ends true false 1 2 ∷ ends false true 1 2 ∷ ends false false 1 2 ∷ []
+
+-- and "refuse", whatever these are
+abbrev refuses : ((installed on : Bool) (number code : ℕ) → Row) → List Row
+refuses ends = ends true true 1 2 ∷ ends true false 1 2 ∷ ends false true 1 2 ∷ ends false false 1 2 ∷ []
 
 -- STCTL of n registers makes 3 references and 3 for each register.
 abbrev stctl : (instruction count : ℕ) → List Write → Row
@@ -74,23 +83,19 @@ edges =
     -- SSM, EC, old 04, new 07: completes
     ∷ ssm false (ec 0x04) 0x07 (store 0x18 1 0x07 ∷ [])
     -- pending: expanded
-    ∷ ssmEnds true true (ec 0x04) 0x07 2 0
-    ∷ ssmEnds false true (ec 0x04) 0x07 1 2
+    ∷ expands (ssmEnds true (ec 0x04) 0x07)
     -- new 84: expanded
-    ∷ ssmEnds true false (ec 0x04) 0x84 2 0
-    ∷ ssmEnds false false (ec 0x04) 0x84 1 2
+    ++ expands (ssmEnds false (ec 0x04) 0x84)
     -- BC, pending, old FF, new 00: completes
-    ∷ ssm true (bc 0xff) 0x00 (store 0x18 1 0x00 ∷ [])
+    ++ ssm true (bc 0xff) 0x00 (store 0x18 1 0x00 ∷ [])
     -- BC, pending, old 00, new 01: refuse, even with the expanded assist
-    ∷ ssmEnds true true (bc 0x00) 0x01 1 2
-    ∷ ssmEnds false true (bc 0x00) 0x01 1 2
+    ∷ refuses (ssmEnds true (bc 0x00) 0x01)
     -- STNSM, EC, old 07, AND FC gives 04
-    ∷ storeThen 0xacfc false (ec 0x07) (store 0x20 1 0x07 ∷ store 0x18 1 0x04 ∷ [])
+    ++ storeThen 0xacfc false (ec 0x07) (store 0x20 1 0x07 ∷ store 0x18 1 0x04 ∷ [])
     -- AND F8: expanded
-    ∷ storeThenEnds 0xacf8 true false (ec 0x07) 2 0
-    ∷ storeThenEnds 0xacf8 false false (ec 0x07) 1 2
+    ∷ expands (storeThenEnds 0xacf8 (ec 0x07))
     -- STOSM, pending, old 07, OR 03: completes, in either mode
-    ∷ storeThen 0xad03 true (ec 0x07) (store 0x20 1 0x07 ∷ store 0x18 1 0x07 ∷ [])
+    ++ storeThen 0xad03 true (ec 0x07) (store 0x20 1 0x07 ∷ store 0x18 1 0x07 ∷ [])
     ∷ storeThen 0xad03 true (bc 0x07) (store 0x20 1 0x07 ∷ store 0x18 1 0x07 ∷ [])
     -- SSK, R1 low byte 3F, swap word 0, old key 04, valid page: key 38; bit 20 zero: word 08003E00
     ∷ ssk (pageApart (0x00 ∷ 0x00 ∷ 0x04 ∷ 0x00 ∷ [])) 0x000000 0x08003e00 0xe0 (0x06 ∷ 0x00 ∷ 0x38 ∷ 0x00 ∷ [])

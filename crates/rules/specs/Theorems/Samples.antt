@@ -51,9 +51,14 @@ guestWith instruction r2 cr6 = record {
 abbrev pub callOf : Guest → (first : ℕ) (installed : Bool) → Call
 callOf guest first installed = record { guest = guest; first = first; installed = installed }
 
--- a call of the guest whose MICBLOK is at 08, with the instruction at 1C
-abbrev pub callWith : (first r2 : ℕ) (installed : Bool) → Call
-callWith first r2 installed = callOf (guestWith 0x1c r2 0x80000008) first installed
+-- a call of the guest whose MICBLOK is at 08, with the instruction at 1C: whether the expanded assist is installed, and
+-- whether bit 6 of control register 6 switches it on
+abbrev pub callBy : (first r2 : ℕ) (installed on : Bool) → Call
+callBy first r2 installed on = callOf (guestWith 0x1c r2 (cond on 0x82000008 0x80000008)) first installed
+
+-- both, or neither
+abbrev pub callWith : (first r2 : ℕ) (expanded : Bool) → Call
+callWith first r2 expanded = callBy first r2 expanded expanded
 
 -- a call with bit 3 of control register 0 one
 abbrev pub protecting : Call → Call

@@ -130,7 +130,7 @@ int main(void)
     run("STCTL", guest);             /* a page of the operand isn't there: the guest is interrupted */
     guest[VMA_PSW_32_63] = 0x003016; /* as after the interruption; now SSM would turn the virtual mask's bit 5 off */
     run("SSM", guest);               /* the expanded assist is installed, but not switched on */
-    guest[VMA_CONTROL_6] |= 0x02000000;
+    guest[VMA_CONTROL_6] |= 0x02000000; /* bit 6 switches it on */
     run("SSM", guest);
     print_answer("none", 0, vma_attempt(NULL, 0, NULL, 0, guest, 0x8000, true));
     return 0;

@@ -182,15 +182,14 @@ impl Edge {
         self
     }
 
-    // These bits of control register 6 are one too.
-    pub(crate) fn control_register_6(mut self, bits: u32) -> Edge {
-        self.cr6 = self.cr6 | bits;
+    pub(crate) fn control_register_6(mut self, value: u32) -> Edge {
+        self.cr6 = value;
         self
     }
 
-    // Bit 6 of control register 6 is one.
+    // Bit 6 of control register 6 is one, the others are as they were.
     pub(crate) fn expanded_on(self) -> Edge {
-        self.control_register_6(EXPANDED_ASSIST)
+        self.control_register_6(self.cr6 | EXPANDED_ASSIST)
     }
 
     // The operand at this logical address.

@@ -3,6 +3,7 @@
 use crate::edge::BC;
 use crate::edge::EC;
 use crate::edge::Edge;
+use crate::places::MICBLOK;
 use crate::run::Group;
 use crate::run::Keys;
 use crate::run::Storage;
@@ -76,7 +77,9 @@ pub(crate) fn set_edge(number: usize) -> Edge {
         6 => ssm_84().expanded_installed(),
         7 => ssm_84().expanded_on(),
         8 => ssm_84(),
-        9 => ssm_84().expanded_installed().control_register_6(0x3D000000),
+        9 => ssm_84()
+            .expanded_installed()
+            .control_register_6(0xBD000000 + MICBLOK),
         10 => Edge::ssm(0xFF, BC, 0x00).pending(),
         11 => ssm_basic().expanded_installed().expanded_on(),
         12 => ssm_basic().expanded_installed(),
@@ -109,7 +112,7 @@ pub(crate) fn store_then_edge(number: usize) -> Edge {
         4 => stnsm_f8(),
         5 => stnsm_f8()
             .expanded_installed()
-            .control_register_6(0x2D000000),
+            .control_register_6(0xAD000000 + MICBLOK),
         6 => Edge::stosm(0x07, EC, 0x03).pending(),
         7 => Edge::stosm(0x07, BC, 0x03).pending(),
         8 => stosm_87().expanded_installed().expanded_on(),

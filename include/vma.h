@@ -1,7 +1,7 @@
 /*
  * The virtual-machine assist of System/370 (IBM manual GA22-7074): one attempt at SET SYSTEM MASK (80), STORE CONTROL
- * (B6), STORE THEN AND SYSTEM MASK (AC), STORE THEN OR SYSTEM MASK (AD) or SET STORAGE KEY (08) for a guest; and a
- * trail, in which attempts are written down.
+ * (B6), STORE THEN AND SYSTEM MASK (AC), STORE THEN OR SYSTEM MASK (AD), SET STORAGE KEY (08), INSERT STORAGE KEY (09)
+ * or RESET REFERENCE BIT (B213) for a guest; and a trail, in which attempts are written down.
  *
  * Link with libvma.a. docs/MANUAL.md has the rules, and what is proved of these functions.
  * Bit 0 is leftmost, numbers in storage are big-endian, and addresses are of 24 bits.
@@ -32,6 +32,7 @@ extern "C" {
 /*
  * 21 words, in the byte order of the machine that runs the emulator. Of the PSW these bits count: 5 (translation on),
  * 8-11 (key), 12 (EC mode), 15 (problem state) and 40-63 (the address of this instruction); no other bit matters.
+ * RESET REFERENCE BIT sets bits 18-19, the condition code.
  */
 enum {
     VMA_PSW_0_31 = 0,        /* real PSW, bits 0-31 */
@@ -56,8 +57,9 @@ enum {
  *
  * Every call is answered, whatever the sizes, bytes, keys, words and halfword are: the answer says how it ended. On
  * completion (VMA_COMPLETED) the instruction's stores and its setting of a key are done, and guest holds the record
- * handed back: the instruction address is moved on by the instruction's length, modulo 2^24, and nothing else is
- * changed. On every other ending storage and guest are as they were, and so are the keys but for reference bits.
+ * handed back: the instruction address is moved on by the instruction's length, modulo 2^24; INSERT STORAGE KEY has set
+ * bits 24-31 of the register that its R1 field names, RESET REFERENCE BIT the condition code; nothing else is changed.
+ * On every other ending storage and guest are as they were, and so are the keys but for reference bits.
  *
  * References are recorded in the keys as they are made: a fetch sets the reference bit (5, value 04) of every block of
  * 2,048 bytes that it touches, a store the reference and change bits (5 and 6, value 06). What was recorded before an
@@ -67,8 +69,8 @@ enum {
  * no two of these overlap, and that nothing else reads or writes them during the call. A pointer whose count is 0 isn't
  * followed. The function allocates nothing and keeps nothing between calls.
  *
- * The answer: the ending in bits 0-7, its code or step in bits 8-15, the count of references in bits 16-31, the logical
- * address in bits 32-63. The functions below take it apart.
+ * The answer: the ending in bits 0-7, its code, step or place in bits 8-15, the count of references in bits 16-31, the
+ * logical address in bits 32-63. The functions below take it apart.
  */
 uint64_t vma_attempt(uint8_t *storage, size_t storage_bytes, uint8_t *keys, size_t key_count,
                      uint32_t guest[21], uint16_t first_halfword, bool expanded_installed);
@@ -80,12 +82,13 @@ enum {
     VMA_COMPLETED = 0,
     VMA_INTERRUPTION = 1,        /* program interruption: vma_code is the interruption code */
     VMA_EXPANDED = 2,            /* handed to the expanded assist, which is installed and switched on */
-    VMA_FIELD_MISSING = 3,       /* a control field, or SSK's key block, is not in storage: vma_code is the step */
+    VMA_FIELD_MISSING = 3,       /* a control field, or the page's key block, is not in storage: vma_code is the step;
+                                    with 09 and B213 the place, from 1, among these as they were tried */
     VMA_WRONG_MODE = 9,          /* real PSW bit 12 or bit 15 is zero */
     VMA_WRONG_STORAGE_SIZE = 10, /* not a multiple of 2,048, or outside 2,048 to 16,777,216 */
     VMA_WRONG_KEY_COUNT = 11,    /* not one key for each 2,048 bytes */
     VMA_ODD_ADDRESS = 12,        /* the instruction address is odd */
-    VMA_NOT_ASSISTED = 13        /* the operation code is none of the five */
+    VMA_NOT_ASSISTED = 13        /* the operation code is none of the seven */
 };
 
 /* The interruption codes. */
@@ -104,7 +107,7 @@ static inline unsigned vma_ending(uint64_t answer)
     return (unsigned)(answer >> 56);
 }
 
-/* The interruption code, for VMA_INTERRUPTION; the step, for VMA_FIELD_MISSING; else 0. */
+/* The interruption code, for VMA_INTERRUPTION; the step or place, for VMA_FIELD_MISSING; else 0. */
 static inline unsigned vma_code(uint64_t answer)
 {
     return (unsigned)(answer >> 48 & 0xff);
@@ -126,6 +129,12 @@ static inline uint32_t vma_address(uint64_t answer)
 static inline uint32_t vma_instruction_address(const uint32_t guest[21])
 {
     return guest[VMA_PSW_32_63] & 0xffffff;
+}
+
+/* The condition code, 0 to 3, in a record that was handed back. */
+static inline unsigned vma_condition_code(const uint32_t guest[21])
+{
+    return guest[VMA_PSW_0_31] >> 12 & 3;
 }
 
 /* An ending in words. */

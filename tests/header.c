@@ -35,6 +35,12 @@ static void record(void)
     guest[1] = 0xAB012345;
     expect(sizeof guest == 84, "the record has 21 words of 4 bytes");
     expect(vma_instruction_address(guest) == 0x012345, "the instruction address is PSW bits 40-63");
+    for (unsigned code = 0; code < 4; code++) {
+        guest[0] = 0xFFFFCFFF | code << 12;
+        expect(vma_condition_code(guest) == code, "the condition code is PSW bits 18-19");
+        guest[0] = code << 12;
+        expect(vma_condition_code(guest) == code, "no other bit is in the condition code");
+    }
     expect(VMA_PSW_0_31 == 0 && VMA_PSW_32_63 == 1 && VMA_GENERAL == 2, "the PSW, then the general registers");
     expect(VMA_CONTROL_0 == 18 && VMA_CONTROL_1 == 19 && VMA_CONTROL_6 == 20, "control registers 0, 1 and 6");
 }

@@ -7,7 +7,7 @@ use second::Ending;
 pub struct Answer {
     /// Number of the ending; 0 is completion.
     pub ending: u8,
-    /// Interruption code (ending 1) or step (ending 3), else zero. The library's has 8 bits, a trail's 16.
+    /// Interruption code (ending 1), step or place (ending 3), else zero. The library's has 8 bits, a trail's 16.
     pub code_or_step: u16,
     /// Count of references.
     pub count: u16,
@@ -16,7 +16,7 @@ pub struct Answer {
 }
 
 impl Answer {
-    /// From the library: ending in bits 63-56, code or step in 55-48, count in 47-32, address in 31-0.
+    /// From the library: ending in bits 63-56, code, step or place in 55-48, count in 47-32, address in 31-0.
     pub fn unpack(result: u64) -> Answer {
         Answer {
             ending: (result >> 56) as u8,
@@ -49,7 +49,7 @@ impl Answer {
         self.ending == 0
     }
 
-    /// Whether it has a code or a step.
+    /// Whether it has a code, a step or a place.
     pub fn has_code_or_step(self) -> bool {
         matches!(self.ending, 1 | 3)
     }
@@ -63,7 +63,7 @@ impl Answer {
 #[cfg(test)]
 mod tests {
     use super::*;
-    use second::Exception;
+    use second::{Exception, NotThere};
 
     #[test]
     fn each_field_comes_from_its_bits() {
@@ -91,7 +91,8 @@ mod tests {
             (Ending::REFUSE, 0x0102_0007_0000_0000),
             (Ending::Interruption(segment), 0x0110_0007_0001_2345),
             (Ending::ExpandedAssist, 0x0200_0007_0000_0000),
-            (Ending::NotInStorage { step: 11 }, 0x030B_0007_0000_0000),
+            (Ending::NotInStorage(NotThere::Step(11)), 0x030B_0007_0000_0000),
+            (Ending::NotInStorage(NotThere::Place(8)), 0x0308_0007_0000_0000),
             (Ending::OperationCode, 0x0D00_0007_0000_0000),
         ] {
             assert_eq!(Answer::of_second(ending, 7), Answer::unpack(packed));

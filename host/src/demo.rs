@@ -1,4 +1,4 @@
-//! `vma demo`: the edges of document 01, those of recording and those of low-address protection, through the
+//! `vma demo`: the edges of document 01, those of ISK and RRB, of recording and of low-address protection, through the
 //! library, and whether the second program says the same.
 
 use std::ffi::OsString;
@@ -16,11 +16,12 @@ pub const COMMAND: Command = Command { name: "demo", help: HELP, action: Action:
 
 const HELP: &str = "usage: vma demo
 
-Runs the edges of document 01 (section \"Edges to show\"), its wrong turns, and the edges of reference and
-change recording and of low-address protection (document 02, R-13 and R-6) through the proved library, and
-prints for each what comes of it: the ending, the count of references, the next instruction address, and the
-bytes and keys that changed, old -> new. (*) marks the edges that are also proved, as one table. Addresses,
-bytes and keys are hex; endings, codes, steps, counts and block numbers are decimal.
+Runs the edges of document 01 (section \"Edges to show\"), its wrong turns, and the edges of ISK and RRB, of
+reference and change recording and of low-address protection (document 02, R-4, R-13 and R-6) through the
+proved library, and prints for each what comes of it: the ending, the count of references, the next
+instruction address, of ISK register R1 and of RRB the condition code, and the bytes and keys that changed,
+old -> new. (*) marks the edges of document 01 that are also proved, as one table. Addresses, registers, bytes
+and keys are hex; endings, codes, steps, places, counts, register and block numbers are decimal.
 
 Each answer is compared with the second program's: its numbers, the record, every byte and every key. If one
 differs, it is said where, and the status is 1.
@@ -32,13 +33,10 @@ fn run(words: &[OsString]) -> Result<Report, Failure> {
     }
     let mut all = edges::small();
     all.extend(edges::large());
-    if let Some(edge) = all.iter().find(|edge| instruction_of(edge).is_none()) {
-        return Err(Failure::Error(format!("an edge is of none of the five instructions: {}", edge.case)));
-    }
     let (mut text, mut differing) = (String::new(), 0);
-    for instruction in Instruction::ALL {
+    for instruction in Instruction::ALL.map(Some).into_iter().chain([None]) {
         text.push_str(&heading(instruction));
-        for edge in all.iter().filter(|edge| instruction_of(edge) == Some(instruction)) {
+        for edge in all.iter().filter(|edge| instruction_of(edge) == instruction) {
             let (lines, differs) = show(edge);
             text.push_str(&lines);
             differing += usize::from(differs);
@@ -52,15 +50,24 @@ fn instruction_of(edge: &Edge) -> Option<Instruction> {
     Instruction::of_first_halfword(edge.request.first_halfword)
 }
 
-fn heading(instruction: Instruction) -> String {
+fn heading(instruction: Option<Instruction>) -> String {
+    let Some(instruction) = instruction else {
+        return "Other operation codes\n\n".into();
+    };
     let name = match instruction {
         Instruction::SetSystemMask => "SET SYSTEM MASK",
         Instruction::StoreControl => "STORE CONTROL",
         Instruction::StoreThenAnd => "STORE THEN AND SYSTEM MASK",
         Instruction::StoreThenOr => "STORE THEN OR SYSTEM MASK",
         Instruction::SetStorageKey => "SET STORAGE KEY",
+        Instruction::InsertStorageKey => "INSERT STORAGE KEY",
+        Instruction::ResetReferenceBit => "RESET REFERENCE BIT",
     };
-    format!("{name} ({}, {:02X})\n\n", instruction.mnemonic(), instruction.operation_code())
+    let code = match instruction {
+        Instruction::ResetReferenceBit => format!("{:04X}", instruction.first_halfword(0)),
+        _ => format!("{:02X}", instruction.operation_code()),
+    };
+    format!("{name} ({}, {code})\n\n", instruction.mnemonic())
 }
 
 /// An edge's paragraph, and whether the two programs differ.
@@ -68,19 +75,34 @@ fn show(edge: &Edge) -> (String, bool) {
     let before = sides::before(&edge.image, &edge.request);
     let library = sides::make(sides::library, &edge.image, &edge.request);
     let second = sides::make(sides::listed, &edge.image, &edge.request);
-    let differences = sides::differences(&library, &second);
+    let first_halfword = edge.request.first_halfword;
+    let differences = sides::differences(&library, &second, first_halfword);
     let mark = if edge.marked { "(*) " } else { "" };
-    let mut lines = vec![format!("  {mark}{}", edge.case), format!("      {}", answer_line(&library))];
+    let mut lines = vec![format!("  {mark}{}", edge.case), format!("      {}", answer_line(&library, first_halfword))];
     let changes = changes::place_lines(&before, &library.after, changes::changed);
     lines.extend(changes.iter().map(|line| format!("      {line}")));
     lines.extend(differences.iter().map(|line| format!("      DIFFERS: {line}")));
     (lines.join("\n") + "\n\n", !differences.is_empty())
 }
 
-fn answer_line(made: &Made) -> String {
+fn answer_line(made: &Made, first_halfword: u16) -> String {
     let references = sides::references(made.answer.count);
     let next = record::instruction_address(&made.after.record);
-    format!("{}; {references}; next instruction address {next:06X}", words::ending(made.answer))
+    let ending = words::ending(made.answer, first_halfword);
+    format!("{ending}; {references}; next instruction address {next:06X}{}", result(made, first_halfword))
+}
+
+/// What ISK and RRB give, as the record handed back has it.
+fn result(made: &Made, first_halfword: u16) -> String {
+    let record = &made.after.record;
+    match Instruction::of_first_halfword(first_halfword) {
+        Some(Instruction::InsertStorageKey) => {
+            let r1 = usize::from(first_halfword >> 4 & 0xF);
+            format!("; {} {:08X}", record::name(2 + r1), record[2 + r1])
+        }
+        Some(Instruction::ResetReferenceBit) => format!("; condition code {}", record::condition_code(record)),
+        _ => String::new(),
+    }
 }
 
 fn conclusion(edges: usize, differing: usize) -> String {

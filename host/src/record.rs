@@ -27,6 +27,11 @@ pub fn instruction_address(record: &Record) -> u32 {
     record[1] & 0x00FF_FFFF
 }
 
+/// PSW bits 18-19.
+pub fn condition_code(record: &Record) -> u32 {
+    record[0] >> 12 & 3
+}
+
 /// The words of a line, where the record is written: PSW, general registers in fours, control registers.
 const LINES: [usize; 6] = [2, 4, 4, 4, 4, 3];
 
@@ -87,6 +92,15 @@ mod tests {
         assert_eq!(lines[0], "ABCDEF00 ABCDEF01");
         assert_eq!(lines[1], "ABCDEF02 ABCDEF03 ABCDEF04 ABCDEF05");
         assert_eq!(lines[5], "ABCDEF12 ABCDEF13 ABCDEF14");
+    }
+
+    #[test]
+    fn condition_code_is_bits_18_and_19() {
+        let mut record = [0; WORDS];
+        for (word, code) in [(0, 0), (0x0000_1000, 1), (0x0000_2000, 2), (0xFFFF_FFFF, 3), (0xFFFF_CFFF, 0)] {
+            record[0] = word;
+            assert_eq!(condition_code(&record), code);
+        }
     }
 
     #[test]

@@ -86,10 +86,11 @@ pub fn make(side: Side, image: &StorageImage, request: &Request) -> Made {
 }
 
 /// How the library's call differs from the second program's, line by line; none if it doesn't.
-pub fn differences(library: &Made, second: &Made) -> Vec<String> {
+pub fn differences(library: &Made, second: &Made, first_halfword: u16) -> Vec<String> {
     let mut lines = Vec::new();
     if library.answer != second.answer {
-        lines.push(told_apart(&numbers(library.answer), &numbers(second.answer)));
+        let [library, second] = [library, second].map(|made| numbers(made.answer, first_halfword));
+        lines.push(told_apart(&library, &second));
     }
     lines.extend(changes::record_lines(&library.after.record, &second.after.record, told_apart));
     lines.extend(changes::place_lines(&library.after, &second.after, told_apart));
@@ -102,9 +103,9 @@ pub fn told_apart(library: &str, second: &str) -> String {
 }
 
 /// All four numbers of an answer, also those that should be zero, and the ending in words.
-pub fn numbers(answer: Answer) -> String {
+pub fn numbers(answer: Answer, first_halfword: u16) -> String {
     let Answer { ending, code_or_step, count, logical_address } = answer;
-    let words = words::ending(answer);
+    let words = words::ending(answer, first_halfword);
     format!(
         "ending {ending}, code or step {code_or_step}, count {count}, address {logical_address:08X} ({words})"
     )

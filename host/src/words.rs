@@ -1,18 +1,28 @@
 //! The endings in words, number first; and numbers.
 
+use second::Instruction;
+
 use crate::answer::Answer;
 
-/// An ending with all that it carries: `1 program interruption, code 16 segment translation, at 012345`.
-pub fn ending(answer: Answer) -> String {
+/// An ending with all that it carries: `1 program interruption, code 16 segment translation, at 012345`. What ending 3
+/// carries is a step or a place, by the instruction, whose first halfword is given.
+pub fn ending(answer: Answer, first_halfword: u16) -> String {
     let kind = kind(answer.ending, answer.code_or_step);
     match answer.ending {
-        3 => format!("{kind}, step {}", answer.code_or_step),
+        3 => format!("{kind}, {} {}", step_or_place(first_halfword), answer.code_or_step),
         _ if answer.has_logical_address() => format!("{kind}, at {:06X}", answer.logical_address),
         _ => kind,
     }
 }
 
-/// An ending without its step and logical address.
+fn step_or_place(first_halfword: u16) -> &'static str {
+    match Instruction::of_first_halfword(first_halfword) {
+        Some(Instruction::InsertStorageKey | Instruction::ResetReferenceBit) => "place",
+        _ => "step",
+    }
+}
+
+/// An ending without its step or place, and without its logical address.
 pub fn kind(number: u8, code: u16) -> String {
     let meaning = match number {
         0 => "completed",
@@ -23,7 +33,7 @@ pub fn kind(number: u8, code: u16) -> String {
         10 => "storage is not a multiple of 2,048 bytes from 2,048 to 16,777,216",
         11 => "number of keys is not storage / 2,048",
         12 => "instruction address is odd",
-        13 => "operation code is none of the five",
+        13 => "operation code is none of the seven",
         _ => "(no ending has this number)",
     };
     format!("{number} {meaning}")
@@ -64,7 +74,7 @@ mod tests {
     use super::*;
 
     fn words(ending: u8, code_or_step: u16, logical_address: u32) -> String {
-        super::ending(Answer { ending, code_or_step, count: 85, logical_address })
+        super::ending(Answer { ending, code_or_step, count: 85, logical_address }, 0x0834)
     }
 
     #[test]
@@ -86,7 +96,19 @@ mod tests {
         assert_eq!(words(10, 0, 0), "10 storage is not a multiple of 2,048 bytes from 2,048 to 16,777,216");
         assert_eq!(words(11, 0, 0), "11 number of keys is not storage / 2,048");
         assert_eq!(words(12, 0, 0), "12 instruction address is odd");
-        assert_eq!(words(13, 0, 0), "13 operation code is none of the five");
+        assert_eq!(words(13, 0, 0), "13 operation code is none of the seven");
+    }
+
+    #[test]
+    fn places_of_two_instructions() {
+        let missing = Answer { ending: 3, code_or_step: 6, count: 5, logical_address: 0 };
+        let ending = |first| super::ending(missing, first);
+        for first in [0x0934, 0xB213] {
+            assert_eq!(ending(first), "3 control field or key block not in storage, place 6");
+        }
+        for first in [0x8000, 0xB601, 0xACFF, 0xAD00, 0x0834, 0xB212, 0x0A00] {
+            assert_eq!(ending(first), "3 control field or key block not in storage, step 6");
+        }
     }
 
     #[test]

@@ -2,14 +2,19 @@
 
 use crate::ending::Ending;
 use crate::guest::Guest;
-use crate::machine::Machine;
+use crate::insert_storage_key::insert_storage_key;
+use crate::machine::{Machine, Numbering};
 use crate::references::{Reference, References};
+use crate::reset_reference_bit::reset_reference_bit;
 use crate::set_storage_key::set_storage_key;
 use crate::set_system_mask::set_system_mask;
 use crate::store_control::store_control;
 use crate::store_then_mask::{store_then_mask, Connective};
 
-/// The five instructions.
+/// RRB is the one code of B2 that is assisted.
+const RESET_REFERENCE_BIT: u16 = 0xB213;
+
+/// The five instructions of document 01, and the two of document 02, R-4.
 #[derive(Clone, Copy, Debug, PartialEq, Eq, PartialOrd, Ord)]
 pub enum Instruction {
     SetSystemMask,
@@ -17,18 +22,22 @@ pub enum Instruction {
     StoreThenAnd,
     StoreThenOr,
     SetStorageKey,
+    InsertStorageKey,
+    ResetReferenceBit,
 }
 
 impl Instruction {
-    pub const ALL: [Instruction; 5] = [
+    pub const ALL: [Instruction; 7] = [
         Instruction::SetSystemMask,
         Instruction::StoreControl,
         Instruction::StoreThenAnd,
         Instruction::StoreThenOr,
         Instruction::SetStorageKey,
+        Instruction::InsertStorageKey,
+        Instruction::ResetReferenceBit,
     ];
 
-    /// The instruction that the first halfword's operation code names.
+    /// The instruction that the first halfword's operation code names: its first byte, and for B2 the second too.
     #[inline]
     pub fn of_first_halfword(first_halfword: u16) -> Option<Instruction> {
         match first_halfword >> 8 {
@@ -37,10 +46,13 @@ impl Instruction {
             0xAC => Some(Instruction::StoreThenAnd),
             0xAD => Some(Instruction::StoreThenOr),
             0x08 => Some(Instruction::SetStorageKey),
+            0x09 => Some(Instruction::InsertStorageKey),
+            0xB2 if first_halfword == RESET_REFERENCE_BIT => Some(Instruction::ResetReferenceBit),
             _ => None,
         }
     }
 
+    /// The first byte of the operation code; RRB has a second one.
     pub fn operation_code(self) -> u8 {
         match self {
             Instruction::SetSystemMask => 0x80,
@@ -48,16 +60,34 @@ impl Instruction {
             Instruction::StoreThenAnd => 0xAC,
             Instruction::StoreThenOr => 0xAD,
             Instruction::SetStorageKey => 0x08,
+            Instruction::InsertStorageKey => 0x09,
+            Instruction::ResetReferenceBit => 0xB2,
         }
     }
 
-    /// Length in bytes: 2 (SSK) or 4.
+    /// The first halfword of this instruction; its second byte is the one given, but for RRB, which has its own.
+    pub fn first_halfword(self, second_byte: u8) -> u16 {
+        match self {
+            Instruction::ResetReferenceBit => RESET_REFERENCE_BIT,
+            _ => u16::from_be_bytes([self.operation_code(), second_byte]),
+        }
+    }
+
+    /// Length in bytes: 2 (SSK, ISK) or 4.
     #[inline]
     pub fn length(self) -> u32 {
-        if self == Instruction::SetStorageKey {
-            2
-        } else {
-            4
+        match self {
+            Instruction::SetStorageKey | Instruction::InsertStorageKey => 2,
+            _ => 4,
+        }
+    }
+
+    /// What ending 3 carries.
+    #[inline]
+    fn numbering(self) -> Numbering {
+        match self {
+            Instruction::InsertStorageKey | Instruction::ResetReferenceBit => Numbering::Places,
+            _ => Numbering::Steps,
         }
     }
 
@@ -68,6 +98,8 @@ impl Instruction {
             Instruction::StoreThenAnd => "STNSM",
             Instruction::StoreThenOr => "STOSM",
             Instruction::SetStorageKey => "SSK",
+            Instruction::InsertStorageKey => "ISK",
+            Instruction::ResetReferenceBit => "RRB",
         }
     }
 }
@@ -141,7 +173,7 @@ pub fn attempt_counted(
     CountedAnswer { ending, count: machine.references, guest }
 }
 
-/// Gives the ending and the record to hand back, which is moved on by zero bytes without completion.
+/// Gives the ending and the record to hand back: as it was given, but for completion.
 #[inline]
 fn run(
     machine: &mut Machine<impl References>,
@@ -150,14 +182,14 @@ fn run(
     expanded: bool,
 ) -> (Ending, Guest) {
     let performed = check_call(machine, guest, first_halfword).and_then(|instruction| {
-        perform(machine, guest, instruction, first_halfword, expanded)?;
-        Ok(instruction)
+        machine.numbering = instruction.numbering();
+        let record = perform(machine, guest, instruction, first_halfword, expanded)?;
+        Ok(record.moved_on(instruction.length()))
     });
-    let (ending, moved_by) = match performed {
-        Ok(instruction) => (Ending::Completed, instruction.length()),
-        Err(ending) => (ending, 0),
-    };
-    (ending, guest.moved_on(moved_by))
+    match performed {
+        Ok(record) => (Ending::Completed, record),
+        Err(ending) => (ending, *guest),
+    }
 }
 
 /// Order: 10, 11, 12, 13, 9.
@@ -186,6 +218,7 @@ fn check_call(
     Ok(instruction)
 }
 
+/// Gives the record on completion, not yet moved on: ISK sets a register, RRB the condition code, the others nothing.
 #[inline]
 fn perform(
     machine: &mut Machine<impl References>,
@@ -193,28 +226,38 @@ fn perform(
     instruction: Instruction,
     first_halfword: u16,
     expanded: bool,
-) -> Result<(), Ending> {
+) -> Result<Guest, Ending> {
     let immediate = (first_halfword & 0xFF) as u8;
     match instruction {
-        Instruction::SetSystemMask => set_system_mask(machine, guest, expanded),
-        Instruction::StoreControl => store_control(machine, guest, first_halfword),
-        Instruction::StoreThenAnd => store_then_mask(machine, guest, Connective::And, immediate, expanded),
-        Instruction::StoreThenOr => store_then_mask(machine, guest, Connective::Or, immediate, expanded),
-        Instruction::SetStorageKey => set_storage_key(machine, guest, first_halfword),
+        Instruction::SetSystemMask => set_system_mask(machine, guest, expanded)?,
+        Instruction::StoreControl => store_control(machine, guest, first_halfword)?,
+        Instruction::StoreThenAnd => store_then_mask(machine, guest, Connective::And, immediate, expanded)?,
+        Instruction::StoreThenOr => store_then_mask(machine, guest, Connective::Or, immediate, expanded)?,
+        Instruction::SetStorageKey => set_storage_key(machine, guest, first_halfword)?,
+        Instruction::InsertStorageKey => return insert_storage_key(machine, guest, first_halfword),
+        Instruction::ResetReferenceBit => return reset_reference_bit(machine, guest),
     }
+    Ok(*guest)
 }
 
 #[cfg(test)]
 mod tests {
     use super::*;
 
+    /// 09, and B2 with 13 alone.
     #[test]
-    fn every_operation_code_both_ways() {
+    fn every_first_halfword_both_ways() {
         for first_halfword in 0..=u16::MAX {
             let named = Instruction::of_first_halfword(first_halfword);
-            let operation_code = (first_halfword >> 8) as u8;
-            let expected = Instruction::ALL.into_iter().find(|one| one.operation_code() == operation_code);
-            assert_eq!(named, expected);
+            let second_byte = first_halfword as u8;
+            let same = |one: &Instruction| one.first_halfword(second_byte) == first_halfword;
+            assert_eq!(named, Instruction::ALL.into_iter().find(same));
+            let by_hand = match first_halfword >> 8 {
+                0x08 | 0x09 | 0x80 | 0xAC | 0xAD | 0xB6 => true,
+                0xB2 => second_byte == 0x13,
+                _ => false,
+            };
+            assert_eq!(named.is_some(), by_hand);
         }
     }
 }

@@ -20,7 +20,8 @@ const SEGMENT_TABLE: Place = (5, 0x040);
 const INSTRUCTION_PAGE_TABLE: Place = (12, 0x918);
 const OPERAND_PAGE_TABLE: Place = (7, 0xB20);
 
-/// Tables of SSK, and the frame whose key it sets. The word before the page table is the swap-table address.
+/// Tables of SSK, ISK and RRB, and the frame whose key they set or read. The word before the page table is the
+/// swap-table address.
 const REAL_SEGMENT_TABLE: Place = (6, 0x400);
 const REAL_PAGE_TABLE: Place = (13, 0xD08);
 const SWAP_TABLE: Place = (4, 0xE20);
@@ -30,7 +31,7 @@ const KEYED_FRAME: Place = (10, 0x000);
 const INSTRUCTION_PAGE: u32 = 0x12_3000;
 const OPERAND_PAGE: u32 = 0x7A_5000;
 
-/// The address that SSK names: segment 0A, page 6, second block of its frame.
+/// The address that they name: segment 0A, page 6, second block of its frame.
 const KEYED_ADDRESS: u32 = 0x0A_6830;
 
 /// The second halfword: base register 2, displacement 018.
@@ -48,8 +49,13 @@ pub fn bench_call(instruction: Instruction, dat: bool, storage_size: usize) -> C
     let mut draft = Draft::new(instruction, storage_size);
     draft.put_control_blocks();
     draft.put_instruction_and_operand(dat);
-    if instruction == Instruction::SetStorageKey {
-        draft.put_real_tables();
+    match instruction {
+        Instruction::SetStorageKey | Instruction::InsertStorageKey => draft.put_real_tables(),
+        Instruction::ResetReferenceBit => {
+            draft.put_real_tables();
+            draft.guest.general_registers[2] = 0x5A00_0000 | (KEYED_ADDRESS - DISPLACEMENT);
+        }
+        _ => {}
     }
     Call {
         image: draft.image,
@@ -68,13 +74,15 @@ struct Draft {
 
 impl Draft {
     fn new(instruction: Instruction, storage_size: usize) -> Draft {
-        // SSM 04 to 07; registers 0 to 15; 04 AND FC; 07 OR 03; registers 3 and 4.
+        // SSM 04 to 07; registers 0 to 15; 04 AND FC; 07 OR 03; registers 3 and 4, twice; RRB's own.
         let (second_byte, old_mask, operand) = match instruction {
             Instruction::SetSystemMask => (0x00, 0x04, 0x07),
             Instruction::StoreControl => (0x0F, 0x00, 0x00),
             Instruction::StoreThenAnd => (0xFC, 0x04, 0x00),
             Instruction::StoreThenOr => (0x03, 0x07, 0x00),
             Instruction::SetStorageKey => (0x34, 0x00, 0x00),
+            Instruction::InsertStorageKey => (0x34, 0x00, 0x00),
+            Instruction::ResetReferenceBit => (0x13, 0x00, 0x00),
         };
         let guest = Guest {
             psw_0_31: PSW_EC_PROBLEM | PSW_KEY,
@@ -87,7 +95,7 @@ impl Draft {
         Draft {
             image: StorageImage::new(storage_size),
             guest,
-            first_halfword: u16::from_be_bytes([instruction.operation_code(), second_byte]),
+            first_halfword: instruction.first_halfword(second_byte),
             old_mask,
             operand,
         }

@@ -1,4 +1,4 @@
-//! The numbered endings of document 01.
+//! The numbered endings of document 01, with what ending 3 carries since document 02, R-4.
 
 use crate::guest::Guest;
 
@@ -27,13 +27,29 @@ impl Exception {
     }
 }
 
+/// What ending 3 carries: for the first five instructions the step (document 01), for ISK and RRB the place, from 1,
+/// among the control fields and the page's key block as tried (document 02, R-4).
+#[derive(Clone, Copy, Debug, PartialEq, Eq)]
+pub enum NotThere {
+    Step(u8),
+    Place(u8),
+}
+
+impl NotThere {
+    pub fn number(self) -> u8 {
+        match self {
+            NotThere::Step(number) | NotThere::Place(number) => number,
+        }
+    }
+}
+
 /// How an attempt ends.
 #[derive(Clone, Copy, Debug, PartialEq, Eq)]
 pub enum Ending {
     Completed,
     Interruption(Exception),
     ExpandedAssist,
-    NotInStorage { step: u8 },
+    NotInStorage(NotThere),
     PswBit12Or15Zero,
     StorageSize,
     KeyCount,
@@ -62,7 +78,7 @@ impl Ending {
             Ending::Completed => 0,
             Ending::Interruption(_) => 1,
             Ending::ExpandedAssist => 2,
-            Ending::NotInStorage { .. } => 3,
+            Ending::NotInStorage(_) => 3,
             Ending::PswBit12Or15Zero => 9,
             Ending::StorageSize => 10,
             Ending::KeyCount => 11,
@@ -71,11 +87,11 @@ impl Ending {
         }
     }
 
-    /// The interruption code (ending 1), the step number (ending 3), else zero.
+    /// The interruption code (ending 1), the step or place (ending 3), else zero.
     pub fn code_or_step(self) -> u32 {
         match self {
             Ending::Interruption(exception) => exception.code(),
-            Ending::NotInStorage { step } => u32::from(step),
+            Ending::NotInStorage(not_there) => u32::from(not_there.number()),
             _ => 0,
         }
     }
@@ -95,7 +111,8 @@ impl Ending {
             Ending::Completed => "completed".into(),
             Ending::Interruption(exception) => format!("interruption {}", exception_words(exception)),
             Ending::ExpandedAssist => "handed to the expanded assist".into(),
-            Ending::NotInStorage { step } => format!("not in storage, step {step}"),
+            Ending::NotInStorage(NotThere::Step(step)) => format!("not in storage, step {step}"),
+            Ending::NotInStorage(NotThere::Place(place)) => format!("not in storage, place {place}"),
             Ending::PswBit12Or15Zero => "PSW bit 12 or 15 zero".into(),
             Ending::StorageSize => "storage size".into(),
             Ending::KeyCount => "number of keys".into(),

@@ -3,6 +3,9 @@
 use crate::address;
 use crate::bits::{word_bit, word_bits};
 
+/// PSW bits 18-19.
+const CONDITION_CODE: u32 = 0x0000_3000;
+
 /// The record that goes in by value and is handed back.
 #[derive(Clone, Copy, Debug, PartialEq, Eq)]
 pub struct Guest {
@@ -79,6 +82,28 @@ impl Guest {
     #[inline]
     pub fn micblok_address(&self) -> u32 {
         word_bits(self.control_register_6, 8, 28) << 3
+    }
+
+    /// The condition code: PSW bits 18-19.
+    #[inline]
+    pub fn condition_code(&self) -> u32 {
+        word_bits(self.psw_0_31, 18, 19)
+    }
+
+    /// The record with another condition code, 0 to 3; nothing else changes.
+    #[inline]
+    pub fn with_condition_code(&self, condition_code: u32) -> Guest {
+        let other_bits = self.psw_0_31 & !CONDITION_CODE;
+        Guest { psw_0_31: other_bits | (condition_code << 12 & CONDITION_CODE), ..*self }
+    }
+
+    /// The record with another general register; only the four rightmost bits of the number are used, and nothing
+    /// else changes.
+    #[inline]
+    pub fn with_general_register(&self, number: u32, value: u32) -> Guest {
+        let mut guest = *self;
+        guest.general_registers[(number & 15) as usize] = value;
+        guest
     }
 
     /// The record with its instruction address moved on, modulo 2^24; nothing else changes.

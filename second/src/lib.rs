@@ -1,6 +1,6 @@
-//! Independent second implementation, from documents 01 and 02 alone, of five instructions of the assist, with
-//! low-address protection, reference and change recording and the expanded assist switched on by control
-//! register 6, and of the trail of calls.
+//! Independent second implementation, from documents 01 and 02 alone, of seven instructions of the assist (R-4 has
+//! added two to the five of document 01), with low-address protection, reference and change recording
+//! and the expanded assist switched on by control register 6, and of the trail of calls.
 
 #![forbid(unsafe_code)]
 
@@ -19,21 +19,25 @@ pub mod ending;
 pub mod fixed;
 pub mod generate;
 pub mod guest;
+pub mod insert_storage_key;
+pub mod key_walk;
 pub mod machine;
 pub mod pairs;
 pub mod references;
 pub mod report;
+pub mod reset_reference_bit;
 pub mod set_storage_key;
 pub mod set_system_mask;
 pub mod setup;
 pub mod store_control;
 pub mod store_then_mask;
+pub mod swap_word;
 pub mod trail;
 pub mod translation;
 pub mod vectors;
 
 pub use attempt::{attempt, attempt_counted, Answer, CountedAnswer, Instruction};
 pub use call::{Call, Request, StorageImage};
-pub use ending::{Ending, Exception};
+pub use ending::{Ending, Exception, NotThere};
 pub use guest::Guest;
 pub use references::{Reference, ReferenceKind, References};

@@ -4,7 +4,7 @@
 use std::collections::BTreeSet;
 
 use crate::address::KEY_BLOCK;
-use crate::attempt::Answer;
+use crate::attempt::{Answer, Instruction};
 use crate::call::{Request, StorageImage};
 use crate::references::ReferenceKind;
 
@@ -35,6 +35,9 @@ pub struct Run {
     /// The bytes stored and the keys set, as store and key-set entries name them. The bits that accesses record in
     /// keys are not among them: those of stores are in the blocks of `part`, those of reads are left aside.
     pub changed: Part,
+    /// The keys that ISK reads whole (document 02, R-4), with their reference bits. Those that SSK and RRB read are
+    /// among the keys set.
+    pub read_whole: BTreeSet<u32>,
 }
 
 impl Part {
@@ -53,31 +56,38 @@ impl Run {
             keys: image.key_bytes(),
             consulted: Part::default(),
             changed: Part::default(),
+            read_whole: BTreeSet::new(),
         };
         for request in requests {
             let answer = request.make(&mut run.storage, &mut run.keys);
-            run.note(&answer);
+            run.note(&request, &answer);
             run.answers.push(answer);
         }
         run
     }
 
-    fn note(&mut self, answer: &Answer) {
+    /// ISK makes no logical access: the key that it consults is the page's.
+    fn note(&mut self, request: &Request, answer: &Answer) {
+        let instruction = Instruction::of_first_halfword(request.first_halfword);
         for entry in &answer.references {
             self.consulted.bytes.extend(&entry.bytes);
             self.consulted.keys.extend(entry.key);
             match entry.kind {
                 ReferenceKind::Store => self.changed.bytes.extend(&entry.bytes),
                 ReferenceKind::KeySet => self.changed.keys.extend(entry.key),
+                ReferenceKind::KeyConsulted if instruction == Some(Instruction::InsertStorageKey) => {
+                    self.read_whole.extend(entry.key);
+                }
                 _ => {}
             }
         }
     }
 
-    /// The smallest part that the list can have: whole blocks in which it stores, or whose key it sets. A block whose
-    /// reference bit a call reads is always among them, as SSK step 11 sets the key that it has read.
+    /// The smallest part that the list can have: whole blocks in which it stores, or whose key it sets or reads whole.
+    /// "No call may read the reference bit of a block in neither part": SSK step 11 and RRB step 12 set the key that
+    /// they have read; the key that ISK step 11 reads is added.
     pub fn part(&self) -> BTreeSet<u32> {
-        self.changed.blocks()
+        &self.changed.blocks() | &self.read_whole
     }
 
     pub fn completed(&self) -> usize {

@@ -9,9 +9,9 @@ use crate::generate::generate;
 use crate::translation::Format;
 
 /// Mnemonics of the columns; the last is any other operation code.
-pub const COLUMNS: [&str; 6] = ["SSM", "STCTL", "STNSM", "STOSM", "SSK", "other"];
+pub const COLUMNS: [&str; 8] = ["SSM", "STCTL", "STNSM", "STOSM", "SSK", "ISK", "RRB", "other"];
 
-/// Ending number and code or step.
+/// Ending number and code, step or place.
 pub type Outcome = (u32, u32);
 
 /// Column, outcome, step and walk step at which the attempt ended.
@@ -73,7 +73,8 @@ impl Tally {
     }
 
     fn outcome_lines(&self) -> Vec<String> {
-        let mut lines = vec![String::new(), table_line("ending", &COLUMNS.map(String::from))];
+        let title = "ending (3: step or place)";
+        let mut lines = vec![String::new(), table_line(title, &COLUMNS.map(String::from))];
         let mut outcomes: Vec<Outcome> = self.outcomes.keys().map(|key| key.0).collect();
         outcomes.dedup();
         for outcome in outcomes {
@@ -132,7 +133,8 @@ pub fn micrseg(storage: &[u8], request: &Request) -> u32 {
         .fold(0, |word, byte| (word << 8) | u32::from(storage.get(byte as usize).copied().unwrap_or(0)))
 }
 
-fn translation_words(request: &Request) -> &'static str {
+/// Whether DAT is on, and the format.
+pub fn translation_words(request: &Request) -> &'static str {
     let guest = &request.guest;
     if !guest.dat_on() {
         return "DAT off";
@@ -146,10 +148,10 @@ fn translation_words(request: &Request) -> &'static str {
     }
 }
 
-/// For SSK, the segment size that MICRSEG chooses.
+/// For SSK, ISK and RRB, the segment size that MICRSEG chooses.
 fn real_table_words(request: &Request, micrseg: u32) -> Option<&'static str> {
-    let ssk = Instruction::of_first_halfword(request.first_halfword) == Some(Instruction::SetStorageKey);
-    ssk.then_some(if micrseg & 1 == 1 { "MICRSEG, 4K, 1M" } else { "MICRSEG, 4K, 64K" })
+    let walks = ["SSK", "ISK", "RRB"].contains(&column(request.first_halfword));
+    walks.then_some(if micrseg & 1 == 1 { "MICRSEG, 4K, 1M" } else { "MICRSEG, 4K, 64K" })
 }
 
 fn outcome_words((number, code_or_step): Outcome) -> String {
@@ -157,7 +159,7 @@ fn outcome_words((number, code_or_step): Outcome) -> String {
         0 => "0 completed".into(),
         1 => format!("1 interruption {code_or_step}"),
         2 => "2 expanded".into(),
-        3 => format!("3 not in storage, step {code_or_step}"),
+        3 => format!("3 not in storage, {code_or_step}"),
         9 => "9 PSW bit 12 or 15".into(),
         10 => "10 storage size".into(),
         11 => "11 number of keys".into(),
@@ -174,10 +176,10 @@ fn count_words(count: u64) -> String {
     }
 }
 
-fn table_line(title: &str, cells: &[String; 6]) -> String {
-    let mut line = format!("{title:26}");
+fn table_line(title: &str, cells: &[String; 8]) -> String {
+    let mut line = format!("{title:25}");
     for cell in cells {
-        line.push_str(&format!("{cell:>12}"));
+        line.push_str(&format!("{cell:>10}"));
     }
     line
 }

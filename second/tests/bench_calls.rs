@@ -12,7 +12,7 @@ const SIZES: [usize; 2] = [0x1_0000, 0x100_0000];
 ///
 /// A fetch of the second halfword or of the operand byte is 2 entries (key, fetch), or 4 with segment and page
 /// entry; a store test is 1, or 3. With DAT on the segment table and two page tables are further places.
-const EXPECTED: [(Instruction, [u32; 2], [usize; 2]); 5] = [
+const EXPECTED: [(Instruction, [u32; 2], [usize; 2]); 7] = [
     // MICCREG, register 0, second halfword, operand byte, MICVPSW, virtual PSW, store: MICBLOK, ECBLOK,
     // instruction, operand, virtual PSW.
     (SetSystemMask, [2 + 2 + 2 + 2 + 1, 2 + 4 + 4 + 2 + 1], [5, 8]),
@@ -24,12 +24,17 @@ const EXPECTED: [(Instruction, [u32; 2], [usize; 2]); 5] = [
     // MICRSEG, segment entry, swap-table address, swap word, page entry, key consulted, key set, store:
     // MICBLOK, segment table, page table, swap table.
     (SetStorageKey, [8, 8], [4, 4]),
+    // The five fields, key consulted, MICVPSW, virtual PSW: the same places and the virtual PSW.
+    (InsertStorageKey, [8, 8], [5, 5]),
+    // MICRSEG, second halfword, four fields, two keys, store: the same four places and the instruction; with DAT on its
+    // two tables.
+    (ResetReferenceBit, [1 + 2 + 4 + 2 + 1, 1 + 4 + 4 + 2 + 1], [5, 7]),
 ];
 
 #[test]
 fn counts_as_numbers() {
     let counts = EXPECTED.map(|(_, counts, _)| counts);
-    assert_eq!(counts, [[9, 13], [51, 85], [7, 11], [7, 11], [8, 8]]);
+    assert_eq!(counts, [[9, 13], [51, 85], [7, 11], [7, 11], [8, 8], [8, 8], [10, 12]]);
 }
 
 #[test]
@@ -53,7 +58,7 @@ fn completes_three_times(instruction: Instruction, dat: bool, size: usize, count
     for number in 1..=3 {
         let answer = attempt_counted(&mut storage, &mut keys, &guest, first_halfword, call.request.expanded);
         assert_eq!((answer.ending, answer.count), (Ending::Completed, count));
-        let length = if instruction == SetStorageKey { 2 } else { 4 };
+        let length = if [SetStorageKey, InsertStorageKey].contains(&instruction) { 2 } else { 4 };
         assert_eq!(answer.guest.psw_32_63, guest.psw_32_63 + length);
         // The first call changes something, the others find it done.
         assert_eq!((&storage, &keys) == (&left.0, &left.1), number > 1);
@@ -102,4 +107,21 @@ fn what_is_stored() {
     let (storage, keys) = after(SetStorageKey);
     assert_eq!(keys[0xA800 / 2048], 0x38);
     assert_eq!(storage[0x4E50..0x4E54], [0x02, 0x00, 0x00, 0x3E]);
+    // ISK stores nothing. RRB: key 04 loses its reference bit, which goes to backup bit 6.
+    let (storage, keys) = after(InsertStorageKey);
+    assert_eq!((keys[0xA800 / 2048], &storage[0x4E50..0x4E54]), (0x04, &[0; 4][..]));
+    let (storage, keys) = after(ResetReferenceBit);
+    assert_eq!((keys[0xA800 / 2048], &storage[0x4E50..0x4E54]), (0x00, &[0x02, 0x00, 0x00, 0x00][..]));
+}
+
+/// ISK inserts the reference bit of the key 04 at every call; RRB finds it at the first call only.
+#[test]
+fn what_is_handed_back() {
+    let three = |instruction| {
+        let call = bench_call(instruction, true, SIZES[0]);
+        let (mut storage, mut keys) = (call.image.storage(), call.image.key_bytes());
+        [(); 3].map(|()| call.request.make(&mut storage, &mut keys).guest)
+    };
+    assert_eq!(three(InsertStorageKey).map(|guest| guest.general_registers[3]), [0xABCD_EF04; 3]);
+    assert_eq!(three(ResetReferenceBit).map(|guest| guest.psw_0_31 >> 12 & 3), [2, 0, 0]);
 }

@@ -2,7 +2,7 @@
 
 use std::collections::BTreeSet;
 
-use second::fixed::{bad_calls, expanded_assist, figures, impostor_lists, low_addresses, mask_bits};
+use second::fixed::{self, FixedList};
 use second::generate::{generate, generate_chain, generate_of_size, LARGEST_LARGE, MIB};
 use second::{attempt_counted, edges, Request, StorageImage};
 
@@ -31,20 +31,19 @@ fn every_edge() {
     for edge in &all {
         compare(&edge.image, [&edge.request]);
     }
-    // 80 in at most 4 MiB, 6 in more.
-    assert_eq!(all.len(), 86);
+    // 152 in at most 4 MiB, 8 in more.
+    assert_eq!(all.len(), 160);
 }
 
 #[test]
 fn every_fixed_case() {
-    let lists =
-        [figures(), mask_bits(), bad_calls(), low_addresses(), expanded_assist(), impostor_lists()].concat();
-    let calls: usize = lists
-        .iter()
-        .map(|list| compare(&list.image, list.calls.iter().map(|call| &call.request)).len())
-        .sum();
-    // docs/VECTORS.md: 88, 288, 66, 79 and 8.
-    assert_eq!(calls, 529);
+    let numbers = fixed::all().map(|(_, lists)| {
+        let calls =
+            |list: &FixedList| compare(&list.image, list.calls.iter().map(|call| &call.request)).len();
+        lists.iter().map(calls).sum::<usize>()
+    });
+    // docs/VECTORS.md; the system mask and the bad calls are one row there.
+    assert_eq!(numbers, [88, 238, 224, 64, 66, 79, 76, 47, 11, 47, 12]);
 }
 
 #[test]

@@ -2,7 +2,7 @@
 
 mod common;
 
-use common::{expect, run, COMPLETED, REFUSED};
+use common::{expect, expect_set, run, Set, COMPLETED, REFUSED};
 use second::setup::{Setup, VIRTUAL_EC};
 
 /// Wrong in every way but storage size and number of keys.
@@ -56,11 +56,27 @@ fn odd_instruction_address_is_tested_third() {
 #[test]
 fn operation_code_is_tested_fourth() {
     for operation_code in 0..=0xFF {
-        let mut setup = wrong_setup();
-        setup.guest.psw_32_63 = 0x1000;
-        setup.first_halfword = operation_code << 8 | 0xAC;
-        let one_of_five = [0x80, 0xB6, 0xAC, 0xAD, 0x08].contains(&operation_code);
-        expect(&setup, (if one_of_five { 9 } else { 13 }, 0, 0), 0);
+        for second_byte in [0x00, 0x12, 0x13, 0x14, 0xAC, 0xFF] {
+            let mut setup = wrong_setup();
+            setup.guest.psw_32_63 = 0x1000;
+            setup.first_halfword = operation_code << 8 | second_byte;
+            let whole_byte = [0x80, 0xB6, 0xAC, 0xAD, 0x08, 0x09].contains(&operation_code);
+            let assisted = whole_byte || setup.first_halfword == 0xB213;
+            expect(&setup, (if assisted { 9 } else { 13 }, 0, 0), 0);
+        }
+    }
+}
+
+/// Document 02, R-4: B2 with another second byte still gets 13.
+#[test]
+fn second_byte_of_b2() {
+    for second_byte in 0..=0xFF {
+        let mut setup = Setup::rrb();
+        setup.first_halfword = 0xB200 | second_byte;
+        match second_byte {
+            0x13 => expect_set(&setup, COMPLETED, 10, Set::ConditionCode(3)),
+            _ => expect(&setup, (13, 0, 0), 0),
+        };
     }
 }
 
@@ -108,6 +124,7 @@ fn instruction_address_goes_round() {
     assert_eq!(expect(&ssk, COMPLETED, 8).answer.guest.psw_32_63, 0);
 }
 
+/// "01's sentence that nothing else in it changes holds for the first five" (document 02, R-4).
 #[test]
 fn nothing_else_in_the_record_changes() {
     for setup in [

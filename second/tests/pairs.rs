@@ -5,7 +5,7 @@ use std::collections::BTreeSet;
 
 use second::generate::{generate, generate_pair};
 use second::pairs::{keep_to_their_parts, Pair, Run};
-use second::setup::{Setup, MICBLOK, VIRTUAL_EC};
+use second::setup::{Setup, MICBLOK, VIRTUAL_BC, VIRTUAL_EC};
 use second::{Answer, ReferenceKind};
 
 const PAIRS: u64 = 400;
@@ -35,6 +35,7 @@ fn check_premise(parts: &Parts, alone: &[Run; 2]) {
     assert!(parts[0].is_disjoint(&parts[1]));
     for (list, run) in alone.iter().enumerate() {
         assert!(run.changed.blocks().is_subset(&parts[list]));
+        assert!(run.read_whole.is_subset(&parts[list]));
         assert!(run.consulted.blocks().is_disjoint(&parts[1 - list]));
     }
 }
@@ -82,24 +83,35 @@ fn an_order_of_both_lists_gives_what_each_gives_alone() {
     }
 }
 
-/// "No call may read the reference bit of a block in neither part": SSK step 11 sets the key that it has read, so the
-/// block is in the list's own part.
+/// "No call may read the reference bit of a block in neither part": SSK step 11 and RRB step 12 set the key that they
+/// have read, so the block is in the list's own part; ISK step 11 sets none, so the key must be noted as read whole.
+/// No other key is looked at but for protection.
 #[test]
-fn a_reference_bit_is_read_only_where_the_key_is_set() {
-    let mut read = 0;
-    for call in (0..3_000).map(|index| generate(13, index)) {
-        let entries = call.make().references;
-        if call.request.first_halfword >> 8 != 0x08 {
-            assert!(entries.iter().all(|entry| entry.kind != ReferenceKind::KeySet));
-            continue;
-        }
-        for place in (0..entries.len()).filter(|&place| entries[place].kind == ReferenceKind::KeyConsulted) {
-            read += 1;
-            let next = &entries[place + 1];
-            assert_eq!((next.kind, next.key), (ReferenceKind::KeySet, entries[place].key));
+fn a_reference_bit_is_read_only_where_the_key_is_set_or_by_isk() {
+    let mut read = [0, 0, 0];
+    for call in (0..6_000).map(|index| generate(13, index)) {
+        let run = Run::of(&call.image, [call.request]);
+        let entries = &run.answers[0].references;
+        let set = entries.iter().position(|entry| entry.kind == ReferenceKind::KeySet);
+        let keys_set = entries.iter().filter(|entry| entry.kind == ReferenceKind::KeySet).count();
+        match call.request.first_halfword {
+            0x0800..=0x08FF | 0xB213 => {
+                assert!(keys_set <= 1 && run.read_whole.is_empty());
+                let Some(set) = set else { continue };
+                let before = &entries[set - 1];
+                assert_eq!((before.kind, before.key), (ReferenceKind::KeyConsulted, entries[set].key));
+                read[usize::from(call.request.first_halfword == 0xB213)] += 1;
+            }
+            0x0900..=0x09FF => {
+                assert_eq!(keys_set, 0);
+                assert!(run.read_whole.iter().eq(&run.consulted.keys) && run.read_whole.len() <= 1);
+                assert_eq!(run.part(), run.read_whole);
+                read[2] += run.read_whole.len();
+            }
+            _ => assert!(keys_set == 0 && run.read_whole.is_empty()),
         }
     }
-    assert!(read > 100, "{read}");
+    assert!(read.iter().all(|&times| times > 100), "{read:?}");
 }
 
 #[test]
@@ -186,6 +198,73 @@ fn a_read_in_the_others_part_shows() {
     assert!(!keep_to_their_parts(&alone));
     assert_eq!(alone[0].storage[0xD18..0xD1C], [0x00, 0x00, 0x00, 0x3E]);
     assert_eq!(both.storage[0xD18..0xD1C], [0x02, 0x00, 0x00, 0x3E]);
+}
+
+/// ISK reads a key whole: another guest's fetch in that block shows in the register, though ISK changes nothing
+/// there. In BC mode the key is read all the same, and the block is in the list's part.
+#[test]
+fn a_key_read_whole_is_in_the_list_s_part() {
+    for (virtual_psw, register_3) in [(VIRTUAL_EC, 0xABCD_EFAE), (VIRTUAL_BC, 0xABCD_EFA8)] {
+        // ISK of the page in block 3 (virtual key AA, key 00); STNSM, refused at step 4, has its virtual PSW there.
+        let isk = Setup::isk(virtual_psw).register(4, 0x0002_3800).word(0xD18, 0x0000_00AA).key(2, 0x00);
+        let isk = isk.word(0x1408, 0x1C00).halfword(0x1C00, 0x0708);
+        let stnsm = Setup::stnsm([0x07, VIRTUAL_EC], 0xF8).control_register_6(0x8000_1400);
+        let lists = [vec![isk.request()], vec![stnsm.request()]];
+        let pair = Pair { image: isk.image.clone(), lists, order: vec![1, 0] };
+        let (alone, both) = (pair.alone(), pair.interleaved());
+        assert!(alone[0].changed.blocks().is_empty());
+        assert_eq!(alone[0].part(), BTreeSet::from([3]));
+        assert!(!keep_to_their_parts(&alone));
+        let register = |answer: &Answer| answer.guest.general_registers[3];
+        // AA is 10101 01 0: in EC mode the change bit, and after STNSM the reference bit too.
+        assert_eq!(register(&alone[0].answers[0]), register_3 & 0xFFFF_FFFA);
+        assert_eq!(register(&both.answers[1]), register_3);
+    }
+}
+
+/// Two guests may both ISK one invalid page: no key is read.
+#[test]
+fn two_guests_insert_the_key_of_one_invalid_page() {
+    let isk = Setup::isk(VIRTUAL_EC).halfword(0xC16, 0x0018);
+    let pair = Pair {
+        image: isk.image.clone(),
+        lists: [vec![isk.request(); 2], vec![isk.request()]],
+        order: vec![0, 1, 0],
+    };
+    let (alone, both) = (pair.alone(), pair.interleaved());
+    assert!(keep_to_their_parts(&alone) && alone.iter().all(|run| run.part().is_empty()));
+    check_conclusion(&pair, &[BTreeSet::new(), BTreeSet::new()], &alone, &both);
+    let valid = Setup::isk(VIRTUAL_EC);
+    let lists = [vec![valid.request()], vec![valid.request()]];
+    let pair = Pair { image: valid.image.clone(), lists, order: vec![0, 1] };
+    assert!(!keep_to_their_parts(&pair.alone()));
+}
+
+/// Both new instructions are in both lists of many pairs, ISK of one page in both lists of some.
+#[test]
+fn pairs_have_the_key_instructions() {
+    let (mut of_isk, mut of_rrb, mut shared) = (0, 0, 0);
+    for pair in (0..PAIRS).map(pair) {
+        let alone = pair.alone();
+        let completed = |list: usize, code: u16| {
+            let calls = pair.lists[list].iter().zip(&alone[list].answers);
+            calls
+                .filter(|(request, answer)| {
+                    request.first_halfword >> 8 == code && answer.ending.number() == 0
+                })
+                .count()
+        };
+        of_isk += completed(0, 0x09) + completed(1, 0x09);
+        of_rrb += completed(0, 0xB2) + completed(1, 0xB2);
+        let same = |one: &&second::Request| {
+            let alike = |other: &second::Request| {
+                other.first_halfword & 0xFF0F == one.first_halfword & 0xFF0F && other.guest == one.guest
+            };
+            one.first_halfword >> 8 == 0x09 && pair.lists[1].iter().any(alike)
+        };
+        shared += pair.lists[0].iter().filter(same).count();
+    }
+    assert!(of_isk > 150 && of_rrb > 300 && shared > 5, "{of_isk} {of_rrb} {shared}");
 }
 
 /// Without the premise the conclusion is not to be had: most pairs with a list twice show it.

@@ -25,16 +25,33 @@ fn check(request: &Request, answer: &Answer, storage: (&[u8], &[u8]), keys: (&[u
     for (place, _, _) in second::call::changes(storage.0, storage.1) {
         assert!(stored.contains(&place));
     }
-    let mut record = answer.guest;
-    assert_ne!(record.psw_32_63, request.guest.psw_32_63);
-    record.psw_32_63 = request.guest.psw_32_63;
-    assert_eq!(record, request.guest);
+    check_record(request, answer);
     // Every byte and key named is there.
     for entry in &answer.references {
         assert!(entry.bytes.iter().all(|&byte| (byte as usize) < storage.0.len()));
         assert!(entry.key.is_none_or(|number| (number as usize) < keys.0.len()));
         assert_eq!(entry.bytes.is_empty(), entry.key.is_some());
     }
+}
+
+/// On completion the address moves on; ISK changes bits 24-31 of register R1, RRB real PSW bits 18-19. Nothing
+/// else.
+fn check_record(request: &Request, answer: &Answer) {
+    let (before, mut record) = (request.guest, answer.guest);
+    let length = if [0x08, 0x09].contains(&(request.first_halfword >> 8)) { 2 } else { 4 };
+    assert_eq!(record.psw_32_63 >> 24, before.psw_32_63 >> 24);
+    assert_eq!(record.psw_32_63 % 0x100_0000, (before.psw_32_63 % 0x100_0000 + length) % 0x100_0000);
+    record.psw_32_63 = before.psw_32_63;
+    if request.first_halfword >> 8 == 0x09 {
+        let r1 = usize::from(request.first_halfword >> 4 & 15);
+        let (old, new) = (before.general_registers[r1], record.general_registers[r1]);
+        assert_eq!((new >> 8, new & 1), (old >> 8, 0));
+        record.general_registers[r1] = old;
+    }
+    if request.first_halfword == 0xB213 {
+        record.psw_0_31 = record.psw_0_31 & 0xFFFF_CFFF | before.psw_0_31 & 0x0000_3000;
+    }
+    assert_eq!(record, before);
 }
 
 /// Demand 1 with R-13: no bit of a key but the reference bit changes, and that is one afterwards exactly if it was one
@@ -131,8 +148,9 @@ fn nonsense_gets_a_number() {
             control_register_1: next() & 0xFF00_1FFF,
             control_register_6: next() & 0x0F00_1FFF | 0x8000_0000,
         };
-        let operation_code = [0x80, 0xB6, 0xAC, 0xAD, 0x08, 0x47][next() as usize % 6];
-        let first_halfword = operation_code << 8 | next() as u16 & 0xFF;
+        let operation_code = [0x80, 0xB6, 0xAC, 0xAD, 0x08, 0x09, 0xB2, 0x47][next() as usize % 8];
+        let second_byte = if operation_code == 0xB2 && next() % 4 != 0 { 0x13 } else { next() as u16 & 0xFF };
+        let first_halfword = operation_code << 8 | second_byte;
         let answer = attempt(&mut storage, &mut keys, &guest, first_halfword, next() % 2 == 0);
         assert!([0, 1, 2, 3, 9, 10, 11, 12, 13].contains(&answer.ending.number()));
     }

@@ -27,7 +27,7 @@ pub(crate) fn is_odd(guest: Guest) -> bool
     guest.instruction_address() % 2 != 0
 }
 
-// 13, where it is not: one of the five.
+// 13, where it is not: one of the seven.
 pub(crate) fn is_assisted(operation: u32) -> bool
     ensures { λ r. ⌜ r ≡ isAssisted operation ⌝ }
 {
@@ -36,6 +36,8 @@ pub(crate) fn is_assisted(operation: u32) -> bool
         | (operation == 0xac)
         | (operation == 0xad)
         | (operation == 0x08)
+        | (operation == 0x09)
+        | (operation == 0xb213)
 }
 
 // 9: real PSW bit 12 or bit 15 is zero.

@@ -56,7 +56,13 @@ fn instruction(storage: &mut [u8], keys: &mut [u8], call: Call) -> Answer
     if is_store_then(operation) {
         return masks::store_then(storage, keys, mask_change(operation), call);
     }
-    storage_key::set_storage_key(storage, keys, call)
+    if operation == 0x08 {
+        return storage_key::set_storage_key(storage, keys, call);
+    }
+    if operation == 0x09 {
+        return storage_key::insert_storage_key(storage, keys, call);
+    }
+    storage_key::reset_reference_bit(storage, keys, call)
 }
 
 // The same after the tests 10, 11, 12, 13 and 9.

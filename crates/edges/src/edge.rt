@@ -14,6 +14,13 @@ use crate::places::SEGMENT_TABLE;
 use crate::places::SWAP_TABLE;
 use crate::places::VIRTUAL_PSW;
 use crate::places::virtual_register;
+use crate::registers::EXPANDED_ASSIST;
+use crate::registers::LOW_ADDRESS_PROTECTION;
+use crate::registers::PAGES_4K_SEGMENTS_64K;
+use crate::registers::PSW_CODE_1_MASK_A;
+use crate::registers::PSW_DAT;
+use crate::registers::PSW_EC_PROBLEM;
+use crate::registers::PSW_KEY_1;
 use rules::Guest;
 
 // The virtual PSW's second byte: bit 12 alone, and all but bit 12.
@@ -21,27 +28,11 @@ pub(crate) const EC: u8 = 0x08;
 
 pub(crate) const BC: u8 = 0xF7;
 
-// Real PSW: EC mode (bit 12) with problem state (15); DAT (5); the key 1 (8-11).
-const PSW_EC_PROBLEM: u64 = 0x0009000000000000;
-
-const PSW_DAT: u64 = 0x0400000000000000;
-
-const PSW_KEY_1: u64 = 0x0010000000000000;
-
-// Control register 0 bits 8-12 are 10000.
-const PAGES_4K_SEGMENTS_64K: u32 = 0x00800000;
-
-// Control register 0 bit 3.
-const LOW_ADDRESS_PROTECTION: u32 = 0x10000000;
-
-// Control register 6 bit 6.
-const EXPANDED_ASSIST: u32 = 0x02000000;
-
 const USUAL_SIZE: usize = 0x4000;
 
 const DISPLACEMENT: u32 = 0x010;
 
-const ROOM: usize = 8;
+const ROOM: usize = 16;
 
 // No word of storage and no key has this place.
 const NOWHERE: u32 = 0xFFFFFFFF;
@@ -152,16 +143,45 @@ impl Edge {
         Edge::new(0xB600 + registers as u16).word(ECBLOK, virtual_register(0))
     }
 
-    // SSK 3,4 of address 023000 (64K segments: segment 2, page 3) in frame 001000; R1 low byte 3F. The last word has
-    // the page entries 2 and 3.
-    pub(crate) fn ssk() -> Edge {
-        let mut edge = Edge::new(0x0834);
-        edge.general[3] = 0xABCDEF3F;
-        edge.r2(0x5A023000)
-            .word(MICRSEG, REAL_SEGMENT_TABLE)
+    // The real tables of address 023000 (64K segments: segment 2, page 3), and the page's entry.
+    fn tables(self, page: u16) -> Edge {
+        self.word(MICRSEG, REAL_SEGMENT_TABLE)
             .word(REAL_SEGMENT_TABLE + 4 * 2, 0xF0000000 + REAL_PAGE_TABLE)
             .word(REAL_PAGE_TABLE - 4, SWAP_TABLE)
-            .word(REAL_PAGE_TABLE + 2 * 2, 0x00000010)
+            .page(page)
+    }
+
+    // SSK 3,4 of address 023000 in frame 001; R1 low byte 3F.
+    pub(crate) fn ssk() -> Edge {
+        Edge::new(0x0834)
+            .register(3, 0xABCDEF3F)
+            .r2(0x5A023000)
+            .tables(0x0010)
+    }
+
+    // ISK 3,4 of the same address; `mode` is byte 1 of the virtual PSW.
+    pub(crate) fn isk(mode: u8) -> Edge {
+        Edge::ssk()
+            .first(0x0934)
+            .virtual_psw(0, mode)
+            .swap(0x5AC3AD53)
+            .key(2, 0x53)
+    }
+
+    // RRB of the same address, in frame 002; `key` is that of the address's block.
+    pub(crate) fn rrb(key: u8, swap: u32) -> Edge {
+        let mut edge = Edge::new(0xB213)
+            .operand(0x023000)
+            .tables(0x0020)
+            .swap(swap)
+            .key(4, key);
+        edge.psw = edge.psw | PSW_CODE_1_MASK_A;
+        edge
+    }
+
+    // RRB of address 023800, in the upper block.
+    pub(crate) fn rrb_upper(key: u8, swap: u32) -> Edge {
+        Edge::rrb(0x00, swap).operand(0x023800).key(5, key)
     }
 }
 
@@ -198,20 +218,39 @@ impl Edge {
         self
     }
 
-    // Register R2 of SSK.
-    pub(crate) fn r2(mut self, value: u32) -> Edge {
-        self.general[4] = value;
+    pub(crate) fn register(mut self, number: u32, value: u32) -> Edge {
+        self.general[(number % 16) as usize] = value;
         self
     }
 
+    // Register R2 of SSK and ISK.
+    pub(crate) fn r2(self, value: u32) -> Edge {
+        self.register(4, value)
+    }
+
+    pub(crate) fn first(mut self, first: u16) -> Edge {
+        self.first = first;
+        self
+    }
+
+    // The word with the entries of pages 2 and 3; the entry of page 2 is zero.
+    pub(crate) fn page(self, entry: u16) -> Edge {
+        self.word(REAL_PAGE_TABLE + 2 * 2, entry as u32)
+    }
+
+    // The swap word of page 3.
+    pub(crate) fn swap(self, word: u32) -> Edge {
+        self.word(SWAP_TABLE + 8 * 3, word)
+    }
+
     pub(crate) fn psw_key_1(mut self) -> Edge {
-        self.psw = PSW_EC_PROBLEM + PSW_KEY_1 + INSTRUCTION as u64;
+        self.psw = self.psw | PSW_KEY_1;
         self
     }
 
     // The first halfword is the last of storage, so that the second isn't in storage.
     pub(crate) fn instruction_at_top(mut self) -> Edge {
-        self.psw = PSW_EC_PROBLEM + LAST_HALFWORD as u64;
+        self.psw = self.psw / 0x1000000 * 0x1000000 + LAST_HALFWORD as u64;
         self.word(LAST_WORD, self.first as u32)
     }
 
@@ -238,7 +277,7 @@ impl Edge {
 
     // DAT on, 4K pages and 64K segments. Two page entries stand in a word.
     pub(crate) fn dat(mut self, pages_0_1: u32, pages_2_3: u32) -> Edge {
-        self.psw = PSW_EC_PROBLEM + PSW_DAT + INSTRUCTION as u64;
+        self.psw = self.psw | PSW_DAT;
         self.cr0 = PAGES_4K_SEGMENTS_64K;
         self.cr1 = 0xFF000000 + SEGMENT_TABLE;
         self.word(SEGMENT_TABLE, 0xF0000000 + PAGE_TABLE)

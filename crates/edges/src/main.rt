@@ -1,8 +1,10 @@
-// Runs every edge of document 01, "Edges to show", but those in 16 MiB, which `vma demo` runs; those of recording and
-// of low-address protection; and every wrong turn.
+// Runs every edge of document 01, "Edges to show", but those in 16 MiB, which `vma demo` runs; those of ISK and RRB, of
+// recording and of low-address protection; and every wrong turn.
 // It prints a line for each; `second edges` writes the lines that must come.
+use crate::insert_storage_key::run_insert_storage_key;
 use crate::low_addresses::run_low_addresses;
 use crate::recording::run_recording;
+use crate::reset_reference_bit::run_reset_reference_bit;
 use crate::run::KEY_COUNT;
 use crate::run::Keys;
 use crate::run::STORAGE_BYTES;
@@ -14,10 +16,13 @@ use crate::wrong_turns::run_wrong_turns;
 
 mod edge;
 mod image;
+mod insert_storage_key;
 mod low_addresses;
 mod places;
 mod recording;
+mod registers;
 mod report;
+mod reset_reference_bit;
 mod run;
 mod set_storage_key;
 mod store_control;
@@ -29,6 +34,8 @@ fn run_all(storage: &mut Storage, keys: &mut Keys) {
     run_store_control(storage, keys);
     run_system_masks(storage, keys);
     run_set_storage_key(storage, keys);
+    run_insert_storage_key(storage, keys);
+    run_reset_reference_bit(storage, keys);
     run_recording(storage, keys);
     run_low_addresses(storage, keys);
     run_wrong_turns(storage, keys);

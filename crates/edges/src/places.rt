@@ -20,7 +20,7 @@ pub(crate) const INSTRUCTION: u32 = 0x1000;
 
 pub(crate) const OPERAND: u32 = 0x2000;
 
-// Real segment table, page table and swap table of SSK; the page table has the swap table's address before it.
+// Real segment table, page table and swap table; the page table has the swap table's address before it.
 pub(crate) const REAL_SEGMENT_TABLE: u32 = 0x800;
 
 pub(crate) const REAL_PAGE_TABLE: u32 = 0xC10;

@@ -27,7 +27,7 @@ pub(crate) fn run_recording(storage: &mut Storage, keys: &mut Keys) {
 
 // SSK whose page is in frame 000: its lower block has the MICBLOK, its upper block the tables.
 fn ssk_in_frame_0() -> Edge {
-    Edge::ssk().word(REAL_PAGE_TABLE + 2 * 2, 0x00000000)
+    Edge::ssk().page(0x0000)
 }
 
 pub(crate) fn edge(number: usize) -> Edge {

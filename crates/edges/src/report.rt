@@ -8,6 +8,7 @@ use crate::text::print_hex;
 use crate::text::print_line;
 use rules::Answer;
 use rules::Ending;
+use rules::Guest;
 
 const ADDRESS_DIGITS: usize = 6;
 
@@ -15,19 +16,45 @@ const KEY_NUMBER_DIGITS: usize = 1;
 
 const BYTE_DIGITS: usize = 2;
 
+const REGISTER_DIGITS: usize = 8;
+
 const INTERRUPTION: u32 = 1;
 
-pub(crate) fn print_answer(answer: Answer) {
+const FIELD_MISSING: u32 = 3;
+
+pub(crate) fn print_answer(answer: Answer, first: u16) {
     let ending = answer.ending;
     let guest = answer.guest;
-    print_ending(ending);
+    print_ending(ending, has_result(first));
     print(b" | count ");
     print_decimal(answer.count);
     print(b" | next ");
     print_hex(guest.instruction_address() as u64, ADDRESS_DIGITS);
+    if has_result(first) {
+        print_result(guest, first);
+    }
 }
 
-fn print_ending(ending: Ending) {
+// ISK and RRB, which set a register or the condition code; their ending 3 carries a place.
+fn has_result(first: u16) -> bool {
+    (first / 256 == 0x09) | (first == 0xB213)
+}
+
+// Register R1 of ISK, or the condition code, PSW bits 18-19, as the record handed back has it.
+fn print_result(guest: Guest, first: u16) {
+    if first == 0xB213 {
+        print(b" | condition code ");
+        print_decimal((guest.psw / 0x100000000000 % 4) as u32);
+        return;
+    }
+    let r1 = (first / 16 % 16) as u32;
+    print(b" | register ");
+    print_decimal(r1);
+    print(b": ");
+    print_hex(guest.register(r1) as u64, REGISTER_DIGITS);
+}
+
+fn print_ending(ending: Ending, by_place: bool) {
     let number = ending.number();
     let code = ending.code();
     print(b" | ending ");
@@ -38,7 +65,7 @@ fn print_ending(ending: Ending) {
         b"completed\n\
           interruption \n\
           handed to the expanded assist\n\
-          not in storage, step \n\
+          not in storage, \n\
           \n\n\n\n\n\
           PSW bit 12 or 15 zero\n\
           storage size\n\
@@ -47,6 +74,9 @@ fn print_ending(ending: Ending) {
           operation code\n",
         number as usize,
     );
+    if number == FIELD_MISSING {
+        print_line(b"step \nplace \n", by_place as usize);
+    }
     if code > 0 {
         print_decimal(code);
     }

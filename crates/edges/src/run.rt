@@ -2,10 +2,13 @@
 use crate::edge::Edge;
 use crate::image::Part;
 use crate::image::fill;
+use crate::insert_storage_key;
+use crate::insert_storage_key::missing_field;
 use crate::low_addresses;
 use crate::recording;
 use crate::report::print_answer;
 use crate::report::print_changes;
+use crate::reset_reference_bit;
 use crate::set_storage_key;
 use crate::store_control;
 use crate::system_masks;
@@ -32,6 +35,12 @@ pub(crate) enum Group {
     SetSystemMask,
     StoreThenMask,
     SetStorageKey,
+    InsertKey,
+    InsertKeyFields,
+    InsertKeyTests,
+    ResetBit,
+    ResetBitFields,
+    ResetBitTests,
     Recording,
     LowAddresses,
     WrongTurns,
@@ -43,6 +52,12 @@ fn edge_of(group: Group, number: usize) -> Edge {
         Group::SetSystemMask => system_masks::set_edge(number),
         Group::StoreThenMask => system_masks::store_then_edge(number),
         Group::SetStorageKey => set_storage_key::edge(number),
+        Group::InsertKey => insert_storage_key::edge(number),
+        Group::InsertKeyFields => insert_storage_key::field_edge(number),
+        Group::InsertKeyTests => insert_storage_key::test_edge(number),
+        Group::ResetBit => reset_reference_bit::edge(number),
+        Group::ResetBitFields => missing_field(Edge::rrb(0xFB, 0x50C3FDFF), number),
+        Group::ResetBitTests => reset_reference_bit::test_edge(number),
         Group::Recording => recording::edge(number),
         Group::LowAddresses => low_addresses::edge(number),
         Group::WrongTurns => wrong_turns::edge(number),
@@ -81,7 +96,8 @@ fn run(storage: &mut [u8], keys: &mut [u8], edge: Edge) {
 fn run_in(storage: &mut [u8], keys: &mut [u8], edge: Edge) {
     fill(storage, edge, Part::Storage);
     fill(keys, edge, Part::Keys);
-    print_answer(assist::attempt(storage, keys, edge.guest(), edge.first, edge.installed));
+    let answer = assist::attempt(storage, keys, edge.guest(), edge.first, edge.installed);
+    print_answer(answer, edge.first);
     print_changes(storage, edge, Part::Storage);
     print_changes(keys, edge, Part::Keys);
     print(b"\n");

@@ -3,19 +3,14 @@ use Rattle.rules.specs.Steps.{_>>=_, fetchBytes, consultKey, stopIf, end
 use Rattle.rules.specs.Recording.{marked}
 use Rattle.rules.specs.Translation.{formatOf, segmentEntry, pageAddress, translate}
 use Rattle.rules.specs.Access.{realOf, keyTest, access, storeTest, logicalFetch}
-use Rattle.rules.specs.Call.{complete}
+use Rattle.rules.specs.Call.{completeAs}
 use Rattle.rules.specs.SetSystemMask.{maskOperand, maskTarget, setSystemMask}
 use Rattle.rules.specs.StoreControl.{gather, controlBlock, wordOperand, storeControl}
 use Rattle.rules.specs.StoreThenMask.{byteOperand, storeThen}
-use Rattle.rules.specs.SetStorageKey.{
-  storeSwapWord,
-  setBlockKey,
-  swapWordAt,
-  pageOf,
-  setKeyIn,
-  segmentTable,
-  setStorageKey,
-}
+use Rattle.rules.specs.SwapTables.{segmentTable, swapWordAt, pageOf, findPage}
+use Rattle.rules.specs.SetStorageKey.{storeSwapWord, setBlockKey, setStorageKey}
+use Rattle.rules.specs.InsertStorageKey.{insertKey, insertBlockKey, insertStorageKey}
+use Rattle.rules.specs.ResetReferenceBit.{storeReset, resetBlockKey, resetReferenceBit}
 use Rattle.rules.specs.Attempt.{admitted, instruction}
 
 -- what every instruction reads by
@@ -25,7 +20,7 @@ unfolding marked _>>=_ fetchBytes consultKey stopIf endingAs formatOf segmentEnt
 walking = tt
 
 unfoldable pub fetching : Unit {0}
-unfolding walking logicalFetch complete
+unfolding walking logicalFetch completeAs
 fetching = tt
 
 -- the instructions
@@ -37,8 +32,13 @@ unfoldable pub storing : Unit {0}
 unfolding fetching storeTest gather controlBlock wordOperand storeControl
 storing = tt
 
+unfoldable pub paging : Unit {0}
+unfolding walking segmentTable swapWordAt pageOf findPage
+paging = tt
+
 unfoldable pub keying : Unit {0}
-unfolding fetching storeSwapWord setBlockKey swapWordAt pageOf setKeyIn segmentTable setStorageKey
+unfolding fetching paging storeSwapWord setBlockKey setStorageKey insertKey insertBlockKey insertStorageKey storeReset
+    resetBlockKey resetReferenceBit
 keying = tt
 
 unfoldable pub computing : Unit {0}

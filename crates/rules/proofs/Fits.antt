@@ -1,8 +1,11 @@
--- How an instruction can end, the record that it hands back, and how many references it can make: what all five share.
+-- How an instruction can end, the record that it hands back, and how many references it can make: what all seven share.
 pub mod SetSystemMask
 pub mod StoreControl
 pub mod StoreThenMask
+pub mod SwapTables
 pub mod SetStorageKey
+pub mod InsertStorageKey
+pub mod ResetReferenceBit
 pub mod Attempt
 use Prim.Native.Nat.{ℕ, _+_, _^_, _≤_, _<_}
 use native.Mathlib.Omega.{arith}
@@ -28,7 +31,7 @@ use Rattle.rules.specs.Endings.{
 use Rattle.rules.specs.Steps.{Steps, _>>=_, fetchBytes, consultKey, stopIf}
 use Rattle.rules.specs.Access.{realOf, keyTest, access, storeTest, logicalFetch}
 use Rattle.rules.specs.Call.{Call, expanded, Completion}
-use Rattle.rules.specs.Theorems.Answers.{table, listed, Possible, instructionLength}
+use Rattle.rules.specs.Theorems.Answers.{table, listed, Possible, instructionLength, withoutResult}
 use Rattle.rules.proofs.Computing.{walking}
 use Rattle.rules.proofs.Within.{Within, Any, within-then}
 
@@ -110,14 +113,18 @@ logicalFetch-within E g a n x =
 
 -- ---- instructions
 
+-- a record that differs from the call's by the instruction's length and result alone
+abbrev pub Advanced : (op : ℕ) → Call → Guest → Type 0
+Advanced op c g = withoutResult op c g ≡ withoutResult op c (advance (c .guest) (instructionLength op))
+
 -- a completion: the record moved on, and no more writes than references left
 pub record Completes (op : ℕ) (c : Call) (k : Completion) (left : ℕ) : Type 0 where
   pub possible : Possible op Completed
-  pub advanced : k .guest ≡ advance (c .guest) (instructionLength op)
+  pub advanced : Advanced op c (k .guest)
   pub written : length (k .writes) ≤ left
 
 pub completes : {op : ℕ} {c : Call} {k : Completion} {left : ℕ} → listed (table op) 0 0 ≡ true
-    → k .guest ≡ advance (c .guest) (instructionLength op) → length (k .writes) ≤ left → Completes op c k left
+    → Advanced op c (k .guest) → length (k .writes) ≤ left → Completes op c k left
 completes l a w = record { possible = possible l refl; advanced = a; written = w }
 
 pub completes-more : (op : ℕ) (c : Call) (k : Completion) (i j : ℕ) → i ≤ j → Completes op c k i → Completes op c k j
@@ -131,8 +138,8 @@ abbrev pub Fits : (op : ℕ) → Call → Steps Completion → ℕ → Type 0
 Fits op c p n = Within (Stops op) (Completes op c) p n
 
 -- p, whose result does not matter, and then f
-pub fits-then : (op : ℕ) (c : Call) (p : Steps ℕ) (f : ℕ → Steps Completion) (j n m : ℕ) → j + n ≤ m
-    → Within (Stops op) Any p j → ((v : ℕ) → Fits op c (f v) n) → Fits op c (p >>= f) m
+pub fits-then : {A : Type 0} (op : ℕ) (c : Call) (p : Steps A) (f : A → Steps Completion) (j n m : ℕ) → j + n ≤ m
+    → Within (Stops op) Any p j → ((v : A) → Fits op c (f v) n) → Fits op c (p >>= f) m
 fits-then op c p f j n m l h g =
     within-then (Stops op) (λ v. Unit {0}) (Completes op c) (completes-more op c) p f j n m l h (λ v t. g v)
 

@@ -27,6 +27,8 @@ use Rattle.rules.specs.SetSystemMask.{setSystemMask}
 use Rattle.rules.specs.StoreControl.{storeControl}
 use Rattle.rules.specs.StoreThenMask.{storeThenAnd, storeThenOr}
 use Rattle.rules.specs.SetStorageKey.{setStorageKey}
+use Rattle.rules.specs.InsertStorageKey.{insertStorageKey}
+use Rattle.rules.specs.ResetReferenceBit.{resetReferenceBit}
 
 -- ---- the tests
 
@@ -42,9 +44,10 @@ wrongKeys bytes keys = not (eqb keys (bytes / 2048))
 abbrev pub oddAddress : Guest → Bool
 oddAddress g = not (eqb (instructionAddress g % 2) 0)
 
--- 13: the operation code is none of the five
+-- 13: the operation code is none of the seven
 abbrev pub isAssisted : (operation : ℕ) → Bool
-isAssisted op = eqb op 0x80 || eqb op 0xb6 || eqb op 0xac || eqb op 0xad || eqb op 0x08
+isAssisted op =
+    eqb op 0x80 || eqb op 0xb6 || eqb op 0xac || eqb op 0xad || eqb op 0x08 || eqb op 0x09 || eqb op 0xb213
 
 -- 9: real PSW bit 12 or bit 15 is zero
 abbrev pub wrongMode : Guest → Bool
@@ -60,7 +63,7 @@ admitted bytes keys next c = do
   stopIf (wrongMode (c .guest)) WrongMode
   next c
 
--- ---- the instruction, by its operation code: 08 is the one of the five that is left
+-- ---- the instruction, by its operation code: B213 is the one of the seven that is left
 
 unfoldable pub instruction : Call → Steps Completion
 instruction c =
@@ -68,7 +71,9 @@ instruction c =
     (branch (eqb (operation c) 0xb6) (storeControl c)
     (branch (eqb (operation c) 0xac) (storeThenAnd c)
     (branch (eqb (operation c) 0xad) (storeThenOr c)
-    (setStorageKey c))))
+    (branch (eqb (operation c) 0x08) (setStorageKey c)
+    (branch (eqb (operation c) 0x09) (insertStorageKey c)
+    (resetReferenceBit c))))))
 
 -- the tests, and then the instruction
 abbrev pub program : (bytes keys : ℕ) → Call → Steps Completion

@@ -1,10 +1,10 @@
 -- A guest's record, document 01's word for its real PSW and registers: its fields, effective addresses, and the move of
 -- the instruction address.
 -- Document 01, "What is modelled" and "Addresses and translation".
-use Prim.Native.Nat.{ℕ, zero, suc, _+_, _-_, _*_}
+use Prim.Native.Nat.{ℕ, zero, suc, _+_, _-_, _*_, _^_}
 use mathlib.Core.Bool.{Bool, not, _&&_}
 use lib.Dec.{eqb, ltb}
-use lib.ListN.{getD}
+use lib.ListN.{getD, set}
 pub use Rattle.rules.specs.declared.guest.Guest.{Guest}
 use Rattle.rules.specs.Bits.{bits, bit, word, halfword}
 use Rattle.rules.specs.Machine.{_⊕_}
@@ -36,10 +36,30 @@ advance g n = record {
   cr6 = g .cr6;
 }
 
+-- another condition code, in bits 18-19
+abbrev pub withCode : Guest → (code : ℕ) → Guest
+withCode g code = record {
+  psw = g .psw - bits 64 18 19 (g .psw) * 2 ^ 44 + bits 2 0 1 code * 2 ^ 44;
+  general = g .general;
+  cr0 = g .cr0;
+  cr1 = g .cr1;
+  cr6 = g .cr6;
+}
+
 -- ---- registers
 
 abbrev pub register : Guest → (r : ℕ) → ℕ
 register g r = getD (g .general) r 0
+
+-- another byte in bits 24-31 of register r
+abbrev pub withByte : Guest → (r byte : ℕ) → Guest
+withByte g r byte = record {
+  psw = g .psw;
+  general = set (g .general) r (word 0 23 (register g r) * 256 + bits 8 0 7 byte);
+  cr0 = g .cr0;
+  cr1 = g .cr1;
+  cr6 = g .cr6;
+}
 
 -- base 0 means zero
 abbrev pub base : Guest → (r : ℕ) → ℕ
@@ -58,7 +78,7 @@ protectsLow g address = bit 32 3 (g .cr0) && ltb address 512
 
 -- ---- control register 6
 
--- bits 0-3 are 10X0: step 1 of STCTL, STNSM and STOSM
+-- bits 0-3 are 10X0: step 1 of STCTL, STNSM, STOSM and RRB
 abbrev pub assistsControl : Guest → Bool
 assistsControl g = eqb (word 0 1 (g .cr6)) 0b10 && not (bit 32 3 (g .cr6))
 

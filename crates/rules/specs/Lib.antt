@@ -16,13 +16,16 @@ pub mod Run
 pub mod Translation
 pub mod Access
 pub mod ControlFields
--- "The five instructions"
+-- "The five instructions", and document 02's
 pub mod Call
 pub mod Masks
 pub mod SetSystemMask
 pub mod StoreControl
 pub mod StoreThenMask
+pub mod SwapTables
 pub mod SetStorageKey
+pub mod InsertStorageKey
+pub mod ResetReferenceBit
 -- the order of the tests, and the answer
 pub mod Attempt
 -- "What a reader may hold us to"

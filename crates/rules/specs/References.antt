@@ -6,7 +6,7 @@ pub use Rattle.rules.specs.declared.keys.KeyUse.{KeyUse}
 pub use Rattle.rules.specs.declared.keys.KeyUse.the-variants.{ForProtection, Whole}
 use Rattle.rules.specs.Machine.{addresses}
 
--- What a key is consulted for: protection, which sees bits 0-4 alone, or whole (SET STORAGE KEY, step 11).
+-- What a key is consulted for: protection, which sees bits 0-4 alone, or whole (SSK and ISK, step 11; RRB, step 12).
 abbrev pub seenAs : KeyUse → (key : ℕ) → ℕ
 seenAs ForProtection k = k / 8
 seenAs Whole k = k

@@ -4,6 +4,7 @@ pub mod Samples
 pub mod ReferenceBits
 pub mod Answers
 pub mod Edges
+pub mod KeyEdges
 pub mod MissingFields
 pub mod Count
 pub mod Isolation

@@ -12,10 +12,15 @@ pub struct Call {
 }
 
 impl Call {
+    // A byte, or two where the first is B2.
     pub fn operation(self) -> u32
         ensures { λ r. ⌜ r ≡ operation self ⌝ }
     {
-        (self.first / 256) as u32
+        let byte = self.first / 256 % 256;
+        if byte == 0xb2 {
+            return self.first as u32;
+        }
+        byte as u32
     }
 
     pub fn r1(self) -> u32

@@ -2,6 +2,7 @@
 ghost use mathlib.Core.Path.{_≡_};
 ghost use Rattle.rules.specs.Guest.{instructionAddress, datOn, pswKey, extendedControl, problemState};
 ghost use Rattle.rules.specs.Guest.{advance, register, base, effective, protectsLow, assistsControl, micblok};
+ghost use Rattle.rules.specs.Guest.{withByte, withCode};
 
 pub struct Guest {
     pub psw: u64,
@@ -63,6 +64,29 @@ impl Guest {
         0
     }
 
+    // The record with bits 24-31 of general register r replaced; there is none after 15.
+    pub fn with_byte(self, r: u32, byte: u8) -> Guest
+        ensures { λ x. ⌜ x ≡ withByte self r byte ⌝ }
+    {
+        let word = self.register(r) / 256 * 256 + byte as u32;
+        let place = r as usize;
+        let mut next = self;
+        if place < 16 {
+            next.general[place] = word;
+        }
+        next
+    }
+
+    // The record with another condition code.
+    pub fn with_code(self, code: u32) -> Guest
+        ensures { λ x. ⌜ x ≡ withCode self code ⌝ }
+    {
+        let mut next = self;
+        let left = self.psw / 70368744177664 * 70368744177664;
+        next.psw = left + (code % 4) as u64 * 17592186044416 + self.psw % 17592186044416;
+        next
+    }
+
     // Base 0 means zero.
     pub fn base(self, r: u32) -> u32
         ensures { λ x. ⌜ x ≡ base self r ⌝ }
@@ -87,7 +111,7 @@ impl Guest {
         (self.cr0 / 268435456 % 2 == 1) & (address < 512)
     }
 
-    // Control register 6 bits 0-3 are 10X0: step 1 of STCTL, STNSM and STOSM.
+    // Control register 6 bits 0-3 are 10X0: step 1 of STCTL, STNSM, STOSM and RRB.
     pub fn assists_control(self) -> bool
         ensures { λ r. ⌜ r ≡ assistsControl self ⌝ }
     {

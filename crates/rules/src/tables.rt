@@ -57,3 +57,26 @@ pub enum PageFault {
     PageInvalid,
     PageFormat,
 }
+
+// On the way from MICRSEG to a page: what ending 3 carries where one of these is not in storage.
+pub struct FieldNumbers {
+    // MICRSEG itself
+    pub table: u32,
+    pub segment: u32,
+    // the word that holds the swap table's address, and the swap word
+    pub swaps: u32,
+    pub swap: u32,
+    pub page: u32,
+    // the page's key block
+    pub block: u32,
+}
+
+// A page that was found: its swap word and where that stands; whether the page is invalid; the block of the address,
+// where it is valid; and whether the address is in the upper block of its page.
+pub struct FoundPage {
+    pub place: u32,
+    pub swap: u32,
+    pub invalid: bool,
+    pub block: u32,
+    pub upper: bool,
+}

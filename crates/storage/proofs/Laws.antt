@@ -15,7 +15,7 @@ use Rattle.rules.specs.Endings.{refuse}
 use Rattle.rules.specs.Machine.{Machine}
 use Rattle.rules.specs.Writes.{Write, performAll}
 use Rattle.rules.specs.Steps.{Steps, done, branch, _>>=_, stopIf, endingAs}
-use Rattle.rules.specs.Call.{Completion, complete}
+use Rattle.rules.specs.Call.{Completion, completeAs, complete}
 use Rattle.rules.specs.Recording.{notedAll}
 use Rattle.rules.specs.Run.{Outcome, ended, gave, run, View, view}
 use Rattle.rules.proofs.Recording.{notedAll-length}
@@ -36,6 +36,7 @@ use Rattle.storage.specs.Answers.{
   answer,
   finish,
   ending,
+  completionAs,
   completion,
   laterAnswer,
 }
@@ -201,15 +202,21 @@ module _ {v : View Completion} (g : Guest) (x : Answer) (s ks : List ℕ) where
       → finished x s ks ≡ finish g v
   stopped-by a f = ap (λ y. finished y s ks) a ∙ ap (finish g) f
 
--- the writes were made
+-- the writes were made, and the record is this one, moved on
+pub completes-as : {m m′ : Machine} {t : Steps Completion} {n : ℕ} (g h : Guest) (x : Answer) (s ks : List ℕ)
+    (bytes : ℕ) (ws : List Write) → Runs m t n m′ (completeAs h bytes ws) → x ≡ completionAs h bytes n (length ws)
+    → machine s ks ≡ performAll m′ ws → finished x s ks ≡ finish g (seen t m)
+unfolding completeAs
+completes-as {m} {m′} {t} {n} g h x s ks bytes ws runs a b =
+    ap (λ y. finished y s ks) a
+    ∙ ap (λ l. record { answer = completionAs h bytes n (length ws); after = l }) b
+    ∙ ap (finish g) (settles (record { guest = advance h bytes; writes = ws }) runs)
+
+-- and where it is the call's own
 pub completes : {m m′ : Machine} {t : Steps Completion} {n : ℕ} (c : Call) (x : Answer) (s ks : List ℕ) (bytes : ℕ)
     (ws : List Write) → Runs m t n m′ (complete c bytes ws) → x ≡ completion c bytes n (length ws)
     → machine s ks ≡ performAll m′ ws → finished x s ks ≡ finish (c .guest) (seen t m)
-unfolding complete
-completes {m} {m′} {t} {n} c x s ks bytes ws h a b =
-    ap (λ y. finished y s ks) a
-    ∙ ap (λ l. record { answer = completion c bytes n (length ws); after = l }) b
-    ∙ ap (finish (c .guest)) (settles (record { guest = advance (c .guest) bytes; writes = ws }) h)
+completes c = completes-as (c .guest) (c .guest)
 
 -- a later stage's answer handed on
 abbrev deferred : ℕ → Finished → Finished

@@ -94,8 +94,12 @@ abbrev pub ending : Stepped → Guest → Answer
 ending (Value v n) g = answer Completed n g
 ending (Stopped e n) g = answer e n g
 
+-- the answer of a completion, whose record is moved on by so many bytes; and where it is the call's own
+abbrev pub completionAs : Guest → (bytes reads writes : ℕ) → Answer
+completionAs g bytes reads writes = answer Completed ((reads + writes) % 2 ^ 32) (advance g bytes)
+
 abbrev pub completion : Call → (bytes reads writes : ℕ) → Answer
-completion c bytes reads writes = answer Completed ((reads + writes) % 2 ^ 32) (advance (c .guest) bytes)
+completion c = completionAs (c .guest)
 
 -- after n references more
 abbrev pub laterAnswer : (n : ℕ) → Answer → Answer

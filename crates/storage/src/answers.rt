@@ -1,6 +1,6 @@
 // The answer of an instruction, from the answer of its last step.
 ghost use mathlib.Core.Path.{_≡_};
-ghost use Rattle.storage.specs.Answers.{ending, completion, laterAnswer};
+ghost use Rattle.storage.specs.Answers.{ending, completionAs, completion, laterAnswer};
 use crate::steps::Stepped;
 use rules::Answer;
 use rules::Call;
@@ -27,17 +27,23 @@ impl Stepped {
     }
 }
 
-// Completion: the instruction address moved on by so many bytes, after so many reads and writes.
-pub fn completed(call: Call, bytes: u32, reads: u32, writes: u32) -> Answer
-    ensures { λ r. ⌜ r ≡ completion call bytes reads writes ⌝ }
+// Completion with this record, its instruction address moved on by so many bytes, after so many reads and writes.
+pub fn completed_as(guest: Guest, bytes: u32, reads: u32, writes: u32) -> Answer
+    ensures { λ r. ⌜ r ≡ completionAs guest bytes reads writes ⌝ }
 {
     let ending = Ending::Completed;
-    let guest = call.guest;
     Answer {
         ending,
         count: std::num::wrapping_add_u32(reads, writes),
         guest: guest.advance(bytes),
     }
+}
+
+// The same with nothing else changed in the call's record.
+pub fn completed(call: Call, bytes: u32, reads: u32, writes: u32) -> Answer
+    ensures { λ r. ⌜ r ≡ completion call bytes reads writes ⌝ }
+{
+    completed_as(call.guest, bytes, reads, writes)
 }
 
 // An answer after n references more.

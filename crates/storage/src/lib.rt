@@ -13,6 +13,7 @@ mod stores;
 
 pub use answers::answer_after;
 pub use answers::completed;
+pub use answers::completed_as;
 pub use fetches::item;
 pub use items::Item;
 pub use items::Width;

@@ -1,8 +1,13 @@
-// SET STORAGE KEY (08), RR format: the key of the block that R2 addresses is set from R1, in the real key and in the
-// swap table. The manual's page names R2 as the key's register; GA22-7000 says R1, and document 01 lets that decide.
+// The instructions that work on storage keys: SET STORAGE KEY (08), INSERT STORAGE KEY (09) and RESET REFERENCE BIT
+// (B213), and the way to a page's entry, swap word and key block, which they share.
 
+mod isk;
 mod keys;
+mod pages;
+mod rrb;
 mod ssk;
 mod tables;
 
+pub use isk::insert_storage_key;
+pub use rrb::reset_reference_bit;
 pub use ssk::set_storage_key;

@@ -1,34 +1,67 @@
-// Steps 1 to 10: the way to the swap word and the page.
+// The steps on the way to a page. Their numbers here are those of SSK and ISK.
 ghost use mathlib.Core.Path.{_≡_};
-ghost use Rattle.rules.specs.SetStorageKey.{formatIn, segmentEnding, segmentTable, swapWordAt, pageOf};
+ghost use Rattle.rules.specs.SwapTables.{steps, places, formatIn, segmentEnding, segmentTable, swapWordAt, pageOf};
 ghost use Rattle.storage.specs.Answers.{machine, told, seen};
 ghost use Rattle.access.specs.Walks.{endedBy};
-use crate::keys::address_word;
 use access::Walked;
-use rules::Call;
 use rules::Ending;
 use rules::Exception;
+use rules::FieldNumbers;
 use rules::Format;
+use rules::Guest;
 use rules::PageSize;
 use rules::SegmentFault;
 use rules::SegmentSize;
 use storage::Stepped;
 
-// Steps 1 to 3: MICRSEG.
-pub(crate) fn segment_table(storage: &[u8], keys: &mut [u8], call: Call) -> Stepped
+// What ending 3 carries. SSK: the step.
+pub(crate) fn steps() -> FieldNumbers
+    ensures { λ r. ⌜ r ≡ steps ⌝ }
+{
+    FieldNumbers {
+        table: 2,
+        segment: 5,
+        swaps: 7,
+        swap: 8,
+        page: 9,
+        block: 11,
+    }
+}
+
+// ISK and RRB: the place, from 1, among these as tried.
+pub(crate) fn places() -> FieldNumbers
+    ensures { λ r. ⌜ r ≡ places ⌝ }
+{
+    FieldNumbers {
+        table: 1,
+        segment: 2,
+        swaps: 3,
+        swap: 4,
+        page: 5,
+        block: 6,
+    }
+}
+
+// Steps 1 to 3: MICRSEG, by whether step 1's test lets the instruction go on.
+pub(crate) fn segment_table(
+    storage: &[u8],
+    keys: &mut [u8],
+    assists: bool,
+    numbers: FieldNumbers,
+    guest: Guest,
+) -> Stepped
     ensures { λ r. ⌜
         told r (now (storage .entry)) (now (keys .exit))
-        ≡ seen (segmentTable call) (machine (now (storage .entry)) (now (keys .entry)))
+        ≡ seen (segmentTable assists numbers guest) (machine (now (storage .entry)) (now (keys .entry)))
         ⌝ }
 {
     let refuse = Ending::Interruption(Exception::PrivilegedOperation);
-    let guest = call.guest;
-    // 1: control register 6 bits 0-2, and bits 28-31 of the address
-    if (guest.cr6 / 536870912 % 8 != 4) | (address_word(call) % 16 != 0) {
+    // 1
+    if !assists {
         return Stepped::Stopped(refuse, 0);
     }
     // 2
-    let field = access::micblok_word(storage, keys, 2, access::MICRSEG, guest);
+    let field = access::micblok_word(storage, keys, numbers.table, access::MICRSEG, guest);
     let Stepped::Value(rseg, count) = field else {
         return field;
     };
@@ -56,13 +89,13 @@ pub(crate) fn format_in(rseg: u32) -> Format
 }
 
 // Steps 4 to 6: an entry that is not in storage gives 3, all other faults refuse.
-fn segment_ending(fault: SegmentFault) -> Ending
-    ensures { λ r. ⌜ r ≡ segmentEnding fault ⌝ }
+fn segment_ending(numbers: FieldNumbers, fault: SegmentFault) -> Ending
+    ensures { λ r. ⌜ r ≡ segmentEnding numbers fault ⌝ }
 {
     let refuse = Ending::Interruption(Exception::PrivilegedOperation);
     match fault {
         SegmentFault::SegmentTableLength => refuse,
-        SegmentFault::SegmentEntryMissing => Ending::FieldMissing(5),
+        SegmentFault::SegmentEntryMissing => Ending::FieldMissing(numbers.segment),
         SegmentFault::SegmentInvalid => refuse,
         SegmentFault::SegmentFormat => refuse,
         SegmentFault::PageTableLength => refuse,
@@ -70,12 +103,12 @@ fn segment_ending(fault: SegmentFault) -> Ending
 }
 
 // The walk's answer, its faults as endings.
-pub(crate) fn refused(walked: Walked) -> Stepped
-    ensures { λ r. ⌜ r ≡ endedBy segmentEnding walked ⌝ }
+pub(crate) fn refused(numbers: FieldNumbers, walked: Walked) -> Stepped
+    ensures { λ r. ⌜ r ≡ endedBy (segmentEnding numbers) walked ⌝ }
 {
     match walked {
         Walked::Entry(entry, count) => Stepped::Value(entry, count),
-        Walked::Fault(fault, count) => Stepped::Stopped(segment_ending(fault), count),
+        Walked::Fault(fault, count) => Stepped::Stopped(segment_ending(numbers, fault), count),
     }
 }
 
@@ -83,17 +116,18 @@ pub(crate) fn refused(walked: Walked) -> Stepped
 pub(crate) fn swap_word_at(
     storage: &[u8],
     keys: &mut [u8],
+    numbers: FieldNumbers,
     format: Format,
     segment: u32,
     at: u32,
 ) -> Stepped
     ensures { λ r. ⌜
         told r (now (storage .entry)) (now (keys .exit))
-        ≡ seen (swapWordAt format segment at) (machine (now (storage .entry)) (now (keys .entry)))
+        ≡ seen (swapWordAt numbers format segment at) (machine (now (storage .entry)) (now (keys .entry)))
         ⌝ }
 {
     let place = rules::difference(access::page_table(segment), 4);
-    let field = access::control_word(storage, keys, 7, place);
+    let field = access::control_word(storage, keys, numbers.swaps, place);
     let Stepped::Value(table, count) = field else {
         return field;
     };
@@ -105,16 +139,17 @@ pub(crate) fn swap_word_at(
 pub(crate) fn page_of(
     storage: &[u8],
     keys: &mut [u8],
+    numbers: FieldNumbers,
     format: Format,
     segment: u32,
     at: u32,
 ) -> Stepped
     ensures { λ r. ⌜
         told r (now (storage .entry)) (now (keys .exit))
-        ≡ seen (pageOf format segment at) (machine (now (storage .entry)) (now (keys .entry)))
+        ≡ seen (pageOf numbers format segment at) (machine (now (storage .entry)) (now (keys .entry)))
         ⌝ }
 {
-    let missing = Ending::FieldMissing(9);
+    let missing = Ending::FieldMissing(numbers.page);
     let entry = access::page_entry(storage, keys, format, segment, at, missing);
     let Stepped::Value(page, count) = entry else {
         return entry;

@@ -4,19 +4,14 @@ use native.Mathlib.Omega.{arith}
 use native.Mathlib.Nat.{div-div-eq-div-mul}
 use mathlib.Core.Path.{_≡_, sym, ap, _∙_}
 use mathlib.Core.List.{List, [], _∷_, _++_}
-use lib.ListN.{length, getD, set}
-use lib.Seq.{take-at, getD-append-add, set-getD}
+use lib.ListN.{length, getD}
+use lib.Seq.{take-at, getD-append-add}
 use Rattle.rules.specs.declared.guest.Guest.{Guest}
 use Rattle.rules.specs.Endings.{Numbers}
 use Rattle.vma.specs.Words.{guestOf, wordsOf}
 use Rattle.vma.specs.Packed.{packed, numbersIn, countIn}
 use Rattle.vma.specs.Inverse.{Fits, PackingInverse}
 use Rattle.vma.proofs.Words.{same-words}
-
-words-back : (w : List ℕ) → length w ≡ 21 → getD w 0 0 < 2 ^ 32 → getD w 1 0 < 2 ^ 32 → wordsOf (guestOf w) ≡ w
-words-back w h a b =
-    let right : (getD w 0 0 * 2 ^ 32 + getD w 1 0) % 2 ^ 32 ≡ getD w 1 0 = omega arith in
-    same-words w h a b ∙ ap (set w 1) right ∙ set-getD w 1 0
 
 guest-back : (g : Guest) → g .psw < 2 ^ 64 → length (g .general) ≡ 16 → guestOf (wordsOf g) ≡ g
 guest-back g h k =
@@ -55,4 +50,4 @@ number-back r h =
     omega arith
 
 pub packing-inverse : PackingInverse
-packing-inverse = record { guest = guest-back; words = words-back; answer = answer-back; number = number-back }
+packing-inverse = record { guest = guest-back; words = same-words; answer = answer-back; number = number-back }

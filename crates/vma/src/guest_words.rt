@@ -2,7 +2,7 @@
 ghost use Prim.Native.Nat.{_+_, _*_, _^_, _<_};
 ghost use mathlib.Core.Path.{_≡_};
 ghost use lib.ListN.{length, getD, take, drop};
-ghost use Rattle.vma.specs.Words.{guestOf};
+ghost use Rattle.vma.specs.Words.{guestOf, wordsOf};
 use rules::Guest;
 
 fn joined(left: u32, right: u32) -> u64
@@ -36,4 +36,22 @@ pub(crate) fn guest_of(words: [u32; 21]) -> Guest
         cr1: words[19],
         cr6: words[20],
     }
+}
+
+// Words 2 to 17 come last: their loop, too, is compiled to one move.
+pub(crate) fn words_of(guest: Guest) -> [u32; 21]
+    ensures { λ r. ⌜ r ≡ wordsOf guest ⌝ }
+{
+    let mut words = [0u32; 21];
+    words[0] = (guest.psw / 4294967296 % 4294967296) as u32;
+    words[1] = (guest.psw % 4294967296) as u32;
+    words[18] = guest.cr0;
+    words[19] = guest.cr1;
+    words[20] = guest.cr6;
+    let mut i: usize = 0;
+    while i < 16 {
+        words[i + 2] = guest.general[i];
+        i += 1;
+    }
+    words
 }

@@ -10,6 +10,7 @@ ghost use Rattle.trail.specs.Trails.{start, refusalNumber};
 ghost use Rattle.vma.specs.Recorded.{writtenDown, packedTrail, refusalIn, heldIn};
 use crate::entries::entry_from;
 use crate::guest_words::guest_of;
+use crate::guest_words::words_of;
 use crate::packing::pack;
 use crate::packing::pack_trail;
 
@@ -18,8 +19,8 @@ mod guest_words;
 mod packing;
 
 // One attempt. The storage, keys and record of the caller are changed in place, and only on completion; in the record
-// the instruction address alone. But references are recorded in the keys as they are made, and stay recorded whatever
-// the ending. Every call is answered, whatever is lent.
+// the instruction address, and the result of ISK or RRB. But references are recorded in the keys as they are made, and
+// stay recorded whatever the ending. Every call is answered, whatever is lent.
 #[no_mangle]
 pub extern "C" fn vma_attempt(
     storage: &mut [u8],
@@ -69,8 +70,7 @@ pub extern "C" fn vma_attempt(
 {
     let answer = assist::attempt(storage, keys, guest_of(*guest), first, installed);
     let ending = answer.ending;
-    let next = answer.guest;
-    guest[1] = (next.psw % 4294967296) as u32;
+    *guest = words_of(answer.guest);
     pack(
         ending.number(),
         ending.code(),

@@ -63,10 +63,10 @@ fn run(words: &[OsString]) -> Result<Report, Failure> {
         files.replace_keys(&after.keys)?;
     }
     let files_written = answer.completed() || recorded;
-    Ok(Report { files_written, ..report(answer, &before, &after) })
+    Ok(Report { files_written, ..report(answer, options.first_halfword, &before, &after) })
 }
 
-fn report(answer: Answer, before: &State, after: &State) -> Report {
+fn report(answer: Answer, first_halfword: u16, before: &State, after: &State) -> Report {
     let next = record::instruction_address(&after.record);
     let mut changes = changes::place_lines(before, after, changes::changed);
     changes.extend(changes::record_lines(&before.record, &after.record, changes::changed));
@@ -74,7 +74,7 @@ fn report(answer: Answer, before: &State, after: &State) -> Report {
         changes.push("nothing changed".into());
     }
     let mut lines = vec![
-        format!("ending {}", words::ending(answer)),
+        format!("ending {}", words::ending(answer, first_halfword)),
         format!("references {}", answer.count),
         format!("next instruction address {next:06X}"),
     ];

@@ -26,10 +26,11 @@ impl Attempt {
     }
 }
 
-/// The library changes the record in place, and of it word 1 alone, which is restored before each call; the other
-/// words stay where they are, as the plain function's record does, which it takes by reference. What goes in and
-/// what comes out is hidden from the optimizer alike, by reference, which costs no copy. Neither is inlined here:
-/// the one is in another language, the other in another crate.
+/// The library changes the record in place. Word 1, with the instruction address, is restored before each call; what
+/// ISK leaves in a register and RRB in the condition code isn't looked at by the next call. The plain function takes
+/// its record by reference, and hands another back. What goes in and what comes out is hidden from the optimizer
+/// alike, by reference, which costs no copy. Neither is inlined here: the one is in another language, the other in
+/// another crate.
 impl Measured for Attempt {
     fn library_batch(&mut self, calls: u32) -> f64 {
         let Request { guest, first_halfword, expanded } = self.request;
@@ -75,7 +76,7 @@ fn check(title: &str, call: &Call) -> Result<(), Failure> {
             return Err(Failure::Error(format!("{title}: the two differ in the {time} call")));
         }
         if !by_library.answer.completed() {
-            let numbers = sides::numbers(by_library.answer);
+            let numbers = sides::numbers(by_library.answer, call.request.first_halfword);
             return Err(Failure::Error(format!("{title}: the {time} call doesn't complete: {numbers}")));
         }
     }

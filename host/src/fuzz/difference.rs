@@ -28,8 +28,8 @@ pub fn of_call(plan: &Plan, list: &List, index: u64, comparer: &Comparer) -> Str
     lines.push(format!("storage of {} bytes, {} keys", image.storage_size, image.key_count));
     lines.extend(before_lines(&list.chain, place));
     if let Some((library, second)) = comparer.last {
-        lines.push(format!("library:        {}", sides::numbers(library.answer)));
-        lines.push(format!("second program: {}", sides::numbers(second.answer)));
+        lines.push(format!("library:        {}", sides::numbers(library.answer, request.first_halfword)));
+        lines.push(format!("second program: {}", sides::numbers(second.answer, request.first_halfword)));
         lines.extend(changes::record_lines(&library.record, &second.record, sides::told_apart));
     }
     let (library, second) = (&comparer.library, &comparer.counted);

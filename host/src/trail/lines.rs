@@ -29,7 +29,7 @@ pub fn write_record(output: &mut impl Write, record: &TrailRecord) -> io::Result
          instruction at {:06X}, next {next_address:06X}",
         operation(*first_halfword),
         if record.expanded_flag == 0 { "no expanded assist" } else { "expanded assist installed" },
-        ending(*answer),
+        ending(*answer, *first_halfword),
         misplaced(*answer),
         references(answer.count),
         record::instruction_address(&record.before),
@@ -66,10 +66,11 @@ pub fn turned_away(trailer: &Trailer) -> Option<String> {
     }
 }
 
-/// The mnemonic, for one of the five instructions.
+/// The mnemonic, for one of the seven instructions; else the operation code, which has two bytes where the first is B2.
 fn operation(first_halfword: u16) -> String {
     match Instruction::of_first_halfword(first_halfword) {
         Some(instruction) => instruction.mnemonic().into(),
+        None if first_halfword >> 8 == 0xB2 => format!("operation {first_halfword:04X}"),
         None => format!("operation {:02X}", first_halfword >> 8),
     }
 }
@@ -138,10 +139,11 @@ mod tests {
     }
 
     #[test]
-    fn instructions_by_their_operation_byte() {
-        let halfwords = [0x80FF, 0xB600, 0xAC12, 0xADFF, 0x0834, 0xB213, 0x0012];
-        let names = ["SSM", "STCTL", "STNSM", "STOSM", "SSK", "operation B2", "operation 00"];
-        assert_eq!(halfwords.map(operation), names);
+    fn instructions_by_their_operation_code() {
+        let halfwords = [0x80FF, 0xB600, 0xAC12, 0xADFF, 0x0834, 0x0934, 0xB213];
+        assert_eq!(halfwords.map(operation), ["SSM", "STCTL", "STNSM", "STOSM", "SSK", "ISK", "RRB"]);
+        let others = [0x0A00, 0xB212, 0xB200, 0x0012].map(operation);
+        assert_eq!(others, ["operation 0A", "operation B212", "operation B200", "operation 00"]);
     }
 
     #[test]

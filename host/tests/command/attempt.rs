@@ -1,6 +1,6 @@
 //! Attempts that complete.
 
-use crate::case::{record, ssk, ssm, storage, Case, MICCREG, MICVPSW, SECOND_HALFWORD};
+use crate::case::{isk, record, rrb, ssk, ssm, storage, Case, MICCREG, MICVPSW, SECOND_HALFWORD};
 
 /// The instruction address moved on, and nothing else in the record.
 fn moved_on(before: &[u32; 21], next: u32) -> Vec<u32> {
@@ -117,6 +117,51 @@ fn set_storage_key() {
     assert_eq!(case.read("storage"), storage);
     assert_eq!(case.read("keys"), [4, 6, 0x38, 0, 0, 0, 0, 0]);
     assert_eq!(case.record(), moved_on(&before, 0x1002));
+}
+
+#[test]
+fn insert_storage_key() {
+    let case = isk();
+    let storage = case.read("storage");
+    let mut expected_record = case.record();
+    let run = case.run();
+    // MICRSEG, segment entry, swap-table address, swap word, page entry; key consulted; MICVPSW, virtual PSW.
+    // Bits 0-4 of AD are A8; of its bits 5-6, 10, and those of 53, 01, the OR is 11.
+    let expected = "ending 0 completed\n\
+                    references 8\n\
+                    next instruction address 001002\n\
+                    key of block 0 (000000-0007FF): 00 -> 04\n\
+                    key of block 1 (000800-000FFF): 00 -> 04\n\
+                    record PSW bits 32-63: 00001000 -> 00001002\n\
+                    record general register 3: ABCDEF3F -> ABCDEFAE\n";
+    assert_eq!((run.status, run.output.as_str()), (Some(0), expected));
+    assert_eq!(case.read("storage"), storage);
+    assert_eq!(case.read("keys"), [4, 4, 0x53, 0, 0, 0, 0, 0]);
+    expected_record[1] = 0x1002;
+    expected_record[2 + 3] = 0xABCD_EFAE;
+    assert_eq!(case.record(), expected_record);
+}
+
+#[test]
+fn reset_reference_bit() {
+    let case = rrb();
+    let mut expected_record = case.record();
+    let run = case.run();
+    // MICRSEG; the second halfword's key and fetch, in block 2; four items of the tables, in block 1; key consulted
+    // and set; the store. Real bits 01 and virtual bits 10: code 3. Bit 5 of the swap word is one, bit 21 zero.
+    let expected = "ending 0 completed\n\
+                    references 10\n\
+                    next instruction address 001004\n\
+                    storage 000D18: 50 C3 FD -> 54 C3 F9\n\
+                    key of block 0 (000000-0007FF): 00 -> 04\n\
+                    key of block 1 (000800-000FFF): 00 -> 06\n\
+                    key of block 2 (001000-0017FF): 00 -> 04\n\
+                    record PSW bits 0-31: 00091A00 -> 00093A00\n\
+                    record PSW bits 32-63: 00001000 -> 00001004\n";
+    assert_eq!((run.status, run.output.as_str()), (Some(0), expected));
+    assert_eq!(case.read("keys"), [4, 6, 4, 0, 0xFB, 0, 0, 0]);
+    (expected_record[0], expected_record[1]) = (0x0009_3A00, 0x1004);
+    assert_eq!(case.record(), expected_record);
 }
 
 #[test]

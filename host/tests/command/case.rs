@@ -169,18 +169,48 @@ pub fn refused_in_16_mebibytes() -> Case {
     Case::new("8000", &storage(0x100_0000, &places), &record())
 }
 
-/// SSK 3,4 of address 023000 in frame 001000, R1 low byte 3F; key 04 in block 2.
-pub fn ssk() -> Case {
-    let places: [(usize, &[u8]); 4] = [
+/// The real tables of address 023000, whose page is in frame 001, and its swap word; then what a case has of its own.
+fn paged(swap_word: &[u8; 4], own: &[(usize, &[u8])]) -> Vec<u8> {
+    let tables: [(usize, &[u8]); 5] = [
         (0x400, &[0, 0, 8, 0]), // MICRSEG: segment table at 000800, length 0, 64K segments
         (0x808, &[0xF0, 0, 0x0C, 0x10]), // segment 2: page table at 000C10, length 15
         (0xC0C, &[0, 0, 0x0D, 0]), // swap table at 000D00
         (0xC16, &[0x00, 0x10]), // page 3: frame 001, valid
+        (0xD18, swap_word),
     ];
+    storage(0x4000, &[&tables, own].concat())
+}
+
+/// A record for SSK or ISK 3,4 of address 023000, R1 low byte 3F.
+fn key_record() -> [u32; 21] {
     let mut record = record();
     record[2 + 3] = 0xABCD_EF3F;
     record[2 + 4] = 0x5A02_3000;
-    let case = Case::new("0834", &storage(0x4000, &places), &record);
+    record
+}
+
+/// SSK 3,4 of address 023000 in frame 001000, R1 low byte 3F; key 04 in block 2.
+pub fn ssk() -> Case {
+    let case = Case::new("0834", &paged(&[0; 4], &[]), &key_record());
     case.write("keys", &[0, 0, 0x04, 0, 0, 0, 0, 0]);
+    case
+}
+
+/// ISK 3,4 of the same address; the virtual key is AD, the real key 53, the virtual PSW in the EC mode.
+pub fn isk() -> Case {
+    let own: [(usize, &[u8]); 2] = [MICVPSW, (0x600, &[0x00, 0x08])];
+    let case = Case::new("0934", &paged(&[0x5A, 0xC3, 0xAD, 0x53], &own), &key_record());
+    case.write("keys", &[0, 0, 0x53, 0, 0, 0, 0, 0]);
+    case
+}
+
+/// RRB of the same address, in frame 002; the virtual key is FD, the real key FB; condition code 1, program mask A.
+pub fn rrb() -> Case {
+    let own: [(usize, &[u8]); 2] = [SECOND_HALFWORD, (0xC16, &[0x00, 0x20])];
+    let mut record = record();
+    record[0] = 0x0009_1A00;
+    record[2 + 2] = 0x5A02_2FF0; // and displacement 010: 023000
+    let case = Case::new("B213", &paged(&[0x50, 0xC3, 0xFD, 0xFF], &own), &record);
+    case.write("keys", &[0, 0, 0, 0, 0xFB, 0, 0, 0]);
     case
 }

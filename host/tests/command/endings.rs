@@ -1,7 +1,7 @@
 //! Attempts that don't complete: the ending is said, the status is 4, and no file is touched, but keys where
 //! reference bits were recorded.
 
-use crate::case::{record, ssk, ssm, storage, text, Case, Snapshot, MICCREG, SECOND_HALFWORD};
+use crate::case::{isk, record, rrb, ssk, ssm, storage, text, Case, Snapshot, MICCREG, SECOND_HALFWORD};
 
 /// A key in which something is recorded: the number of its block, its value before, and after.
 type Recorded = (usize, u8, u8);
@@ -124,6 +124,14 @@ fn not_in_storage() {
     // MICRSEG is in block 0, the four items of the tables in 1.
     let recorded = [(0, 0x00, 0x04), (1, 0x00, 0x04)];
     expect(&key_block, "3 control field or key block not in storage, step 11", 5, &recorded);
+    // The same of ISK, in the place that it has among what is tried; and of RRB, after the second halfword in block 2.
+    for (case, count, more) in [(isk(), 5, None), (rrb(), 7, Some((2, 0x00, 0x04)))] {
+        let mut storage = case.read("storage");
+        storage[0xC17] = 0x40;
+        case.write("storage", &storage);
+        let recorded: Vec<Recorded> = recorded.into_iter().chain(more).collect();
+        expect(&case, "3 control field or key block not in storage, place 6", count, &recorded);
+    }
 }
 
 #[test]
@@ -185,7 +193,7 @@ fn bad_calls() {
     expect(&altered(ssm(0x07), 1, 0x0000_1001), "12 instruction address is odd", 0, &[]);
     let mut case = ssm(0x07);
     case.first = "8100";
-    expect(&case, "13 operation code is none of the five", 0, &[]);
+    expect(&case, "13 operation code is none of the seven", 0, &[]);
 }
 
 #[test]

@@ -3,7 +3,7 @@
 use crate::case::vma;
 
 /// Parts of the demonstration.
-const SHOWN: [&str; 13] = [
+const SHOWN: [&str; 18] = [
     "SET SYSTEM MASK (SSM, 80)\n\n  (*) EC, old 04, new 07\n      \
      0 completed; 9 references; next instruction address 001004\n      storage 000600: 04 -> 07\n      \
      key of block 0 (000000-0007FF): 00 -> 06\n      key of block 2 (001000-0017FF): 00 -> 04\n      \
@@ -26,6 +26,19 @@ const SHOWN: [&str; 13] = [
     "  tables in the page's own block\n      0 completed; 8 references; next instruction address 001002\n      \
      storage 000D18: 00 00 00 00 -> 02 00 00 3E\n      key of block 0 (000000-0007FF): 00 -> 04\n      \
      key of block 1 (000800-000FFF): 00 -> 3E\n\n",
+    "INSERT STORAGE KEY (ISK, 09)\n\n  EC, page valid, bit 20 zero, swap word 5AC3AD53, key 53\n      \
+     0 completed; 8 references; next instruction address 001002; general register 3 ABCDEFAE\n      \
+     key of block 0 (000000-0007FF): 00 -> 04\n      key of block 1 (000800-000FFF): 00 -> 04\n\n",
+    "  page invalid, MICVPSW at 4000\n      3 control field or key block not in storage, place 6; 5 references; \
+     next instruction address 001000; general register 3 ABCDEF3F\n",
+    "RESET REFERENCE BIT (RRB, B213)\n\n  key F9, swap word 50C3F9FF, bit 20 zero\n      \
+     0 completed; 10 references; next instruction address 001004; condition code 0\n",
+    // The swap word goes from FFFFFE round to 000001.
+    "  key FF, swap word 50C3F9FF at FFFFFE, bit 20 zero\n      \
+     0 completed; 10 references; next instruction address 001004; condition code 3\n      \
+     storage FFFFFE: 50 -> 5C\n",
+    "Other operation codes\n\n  first halfword B212\n      \
+     13 operation code is none of the seven; 0 references; next instruction address 001000\n\n",
     // MICVPSW is in block 0, the virtual PSW in block 5.
     "  EC, old 07, AND F8, refused after two fetches, whose reference bits stay\n      \
      1 program interruption, code 2 privileged operation; 2 references; next instruction address 001000\n      \
@@ -48,7 +61,7 @@ const SHOWN: [&str; 13] = [
 fn demo() {
     let run = vma(&["demo"]);
     assert_eq!((run.status, run.messages.as_str()), (Some(0), ""));
-    assert!(run.output.ends_with("\n86 edges; each answer is the second program's\n"));
+    assert!(run.output.ends_with("\n160 edges; each answer is the second program's\n"));
     for expected in SHOWN {
         assert!(run.output.contains(expected), "{expected}");
     }
@@ -100,7 +113,7 @@ fn bench() {
     let run = vma(&["bench", "--quick"]);
     assert_eq!((run.status, run.messages.as_str()), (Some(0), ""));
     let rows = run.output.lines().filter(|line| line.contains("  DAT "));
-    assert_eq!(rows.count(), 20);
+    assert_eq!(rows.count(), 28);
     for title in ["trail  goes in", "trail  is full"] {
         for size in ["64 KiB", "16 MiB"] {
             assert!(run.output.contains(&format!("\n{title}  {size}  ")), "{}", run.output);
@@ -115,6 +128,6 @@ fn bench_that_only_compares() {
     let run = vma(&["bench", "--check"]);
     assert_eq!((run.status, run.messages.as_str()), (Some(0), ""));
     let titles: Vec<&str> = run.output.lines().collect();
-    assert_eq!(titles.len(), 24, "{}", run.output);
-    assert_eq!((titles[0], titles[23]), ("SSM    DAT off  64 KiB", "trail  is full  16 MiB"));
+    assert_eq!(titles.len(), 32, "{}", run.output);
+    assert_eq!((titles[0], titles[31]), ("SSM    DAT off  64 KiB", "trail  is full  16 MiB"));
 }

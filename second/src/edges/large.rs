@@ -1,7 +1,7 @@
 //! Edges in 16 MiB, and in one block more.
 
 use super::Edge;
-use crate::setup::{Setup, MICBLOK, VIRTUAL_PSW};
+use crate::setup::{Setup, MICBLOK, SWAP_ADDRESS, VIRTUAL_EC, VIRTUAL_PSW};
 
 pub fn edges() -> Vec<Edge> {
     // The words at FFFFF8 and FFFFFC are in block 1FFF (hex), the third in block 0, whose key is not PSW key 1.
@@ -32,7 +32,22 @@ pub fn edges() -> Vec<Edge> {
              nothing stored",
             &protected.clone().low_address_protection(),
         ),
+        Edge::new(
+            false,
+            "EC, page valid, bit 20 zero, swap word 5AC3AD53 at FFFFFE, key 53",
+            &swap_word_round_the_top(Setup::isk(VIRTUAL_EC), 0x5AC3_AD53),
+        ),
+        Edge::new(
+            false,
+            "key FF, swap word 50C3F9FF at FFFFFE, bit 20 zero",
+            &swap_word_round_the_top(Setup::rrb().key(4, 0xFF), 0x50C3_F9FF),
+        ),
     ]
+}
+
+/// Page 3's word is at FFFFE6 + 18 = FFFFFE, so that it ends at 000001.
+fn swap_word_round_the_top(setup: Setup, swap_word: u32) -> Setup {
+    setup.size(0x100_0000).word(SWAP_ADDRESS, 0x00FF_FFE6).word(0xFF_FFFE, swap_word)
 }
 
 /// MICBLOK at 1400, with the instruction in block 2. ECBLOK at FFFFC2: register 15 is at FFFFFE to 000001, and no

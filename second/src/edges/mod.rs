@@ -1,16 +1,21 @@
 //! Every edge of document 01, section "Edges to show", those that come to "expanded" with control register 6 bit 6 both
-//! ways (document 02, R-3), those of recording and of low-address protection, as a concrete call.
+//! ways (document 02, R-3), those of ISK and RRB, of recording and of low-address protection, as a
+//! concrete call.
 
+mod insert_key_edges;
 mod large;
 mod low_address_edges;
 mod mask_edges;
 mod recording_edges;
+mod reset_bit_edges;
 mod storage_key_edges;
 mod store_control_edges;
 mod wrong_turns;
 
 use crate::attempt::{Answer, Instruction};
+use crate::bits::halfword_bits;
 use crate::call::{changes, Change, Request, StorageImage};
+use crate::guest::Guest;
 use crate::setup::Setup;
 
 /// One edge: a call on its own storage.
@@ -52,7 +57,7 @@ impl Edge {
         let result = self.run();
         let ending = result.answer.ending;
         format!(
-            "{:5} {}{} | ending {} {} | count {} | next {:06X} | {}{}",
+            "{:5} {}{} | ending {} {} | count {} | next {:06X}{} | {}{}",
             self.mnemonic(),
             if self.marked { "(*) " } else { "" },
             self.case,
@@ -60,9 +65,24 @@ impl Edge {
             ending.words(),
             result.answer.count(),
             result.answer.guest.instruction_address(),
+            self.result_words(&result.answer.guest),
             change_words("bytes", 6, &result.bytes),
             change_words("; keys", 1, &result.keys),
         )
+    }
+
+    /// For ISK the register that R1 names, for RRB the condition code, as the record handed back has them.
+    fn result_words(&self, record: &Guest) -> String {
+        match Instruction::of_first_halfword(self.request.first_halfword) {
+            Some(Instruction::InsertStorageKey) => {
+                let number = halfword_bits(self.request.first_halfword, 8, 11);
+                format!(" | register {number}: {:08X}", record.general_register(number))
+            }
+            Some(Instruction::ResetReferenceBit) => {
+                format!(" | condition code {}", record.condition_code())
+            }
+            _ => String::new(),
+        }
     }
 }
 
@@ -80,6 +100,8 @@ pub fn small() -> Vec<Edge> {
     let mut edges = store_control_edges::edges();
     edges.extend(mask_edges::edges());
     edges.extend(storage_key_edges::edges());
+    edges.extend(insert_key_edges::edges());
+    edges.extend(reset_bit_edges::edges());
     edges.extend(recording_edges::edges());
     edges.extend(low_address_edges::edges());
     edges.extend(wrong_turns::edges());

@@ -1,11 +1,7 @@
 //! Edges of reference and change recording (document 02, R-13). All keys are 00 but where a set-up gives them.
 
 use super::Edge;
-use crate::setup::{Setup, MICBLOK, VIRTUAL_EC};
-
-/// Where the entry of page 3 and the swap-table address of the set-ups for SSK are.
-const PAGE_ENTRY: u32 = 0xC16;
-const SWAP_ADDRESS: u32 = 0xC0C;
+use crate::setup::{Setup, MICBLOK, PAGE_ENTRY, SWAP_ADDRESS, VIRTUAL_EC};
 
 pub fn edges() -> Vec<Edge> {
     let mut edges = storage_key_edges();

@@ -1,11 +1,12 @@
 //! Lists for the impostors, above all for one that performs a list's first call and only pretends later.
 
 use super::FixedList;
-use crate::setup::{Setup, VIRTUAL_BC, VIRTUAL_EC};
+use crate::setup::{Setup, VIRTUAL_BC, VIRTUAL_EC, VIRTUAL_PSW};
 
 pub fn lists() -> Vec<FixedList> {
     let mut lists = vec![three_masks(), two_keys()];
     lists.extend(refused_then_completed());
+    lists.push(four_of_one_page());
     lists
 }
 
@@ -35,6 +36,25 @@ fn two_keys() -> FixedList {
         &[
             ("list of two, call 1: old key 07, R1 3F", &first),
             ("list of two, call 2: old key 39 from call 1, R1 C6", &second),
+        ],
+    )
+}
+
+/// RRB twice on one page, which then has neither reference bit; SSK puts another virtual key, and ISK finds it.
+fn four_of_one_page() -> FixedList {
+    // The page is in frame 002, in EC mode, for all of them; R1 is C4 for SSK.
+    let first = Setup::rrb().key(4, 0xFF).halfword(VIRTUAL_PSW, u16::from(VIRTUAL_EC));
+    let mut set = Setup::ssk().register(3, 0x0000_00C4);
+    let mut insert = Setup::isk(VIRTUAL_EC);
+    set.guest.psw_32_63 = 0x1004;
+    insert.guest.psw_32_63 = 0x1006;
+    FixedList::several(
+        &first,
+        &[
+            ("list of four, call 1: key FF, virtual key FD", &first),
+            ("list of four, call 2: key FB and virtual key F9 from call 1", &first),
+            ("list of four, call 3: key FB from call 1, R1 C4", &set),
+            ("list of four, call 4: key C1 and virtual key C4 from call 3", &insert),
         ],
     )
 }

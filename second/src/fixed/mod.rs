@@ -1,17 +1,28 @@
-//! Fixed calls that open every file of calls: the manual's figures 13 to 18, every bit of the system mask,
-//! bad calls in every combination, low-address protection, the expanded assist switched on, and the impostors' lists.
+//! Fixed calls that open every file of calls: the manual's figures 13 to 18, and 6, 7, 10 and 11 of ISK and RRB,
+//! every bit of the system mask, bad calls in every combination, low-address protection, the expanded assist switched
+//! on, the steps of ISK and RRB, RRB's second halfword, ISK and RRB with a fetch in the page's own block, first
+//! halfwords beside theirs, and the impostors' lists.
 
 mod expanded;
+mod figure_10;
+mod figure_11;
 mod figure_13;
 mod figure_14;
 mod figure_15;
 mod figure_16;
+mod figure_6;
+mod figure_7;
 mod figures_17_18;
 mod impostors;
+mod key_steps;
+mod key_tables;
 mod layout;
 mod low_addresses;
 mod mask_bits;
 mod order;
+mod other_codes;
+mod own_block;
+mod second_halfword;
 
 use crate::attempt::Instruction;
 use crate::call::{Request, StorageImage};
@@ -76,6 +87,15 @@ pub fn figures() -> Vec<FixedList> {
     lists
 }
 
+/// Figures 6, 7, 10 and 11, each case a list of one call.
+pub fn key_figures() -> Vec<FixedList> {
+    let mut lists = figure_6::cases();
+    lists.extend(figure_7::cases());
+    lists.extend(figure_10::cases());
+    lists.extend(figure_11::cases());
+    lists
+}
+
 /// Every bit of the system mask, each case a list of one call.
 pub fn mask_bits() -> Vec<FixedList> {
     mask_bits::cases()
@@ -96,6 +116,43 @@ pub fn expanded_assist() -> Vec<FixedList> {
     expanded::cases()
 }
 
+/// The steps of ISK and RRB, each case a list of one call.
+pub fn key_steps() -> Vec<FixedList> {
+    key_steps::cases()
+}
+
+/// RRB's second halfword, each case a list of one call.
+pub fn second_halfwords() -> Vec<FixedList> {
+    second_halfword::cases()
+}
+
+/// ISK and RRB with a fetch in the page's own block, each case a list of one call.
+pub fn own_blocks() -> Vec<FixedList> {
+    own_block::cases()
+}
+
+/// First halfwords beside those of ISK and RRB, each case a list of one call.
+pub fn other_codes() -> Vec<FixedList> {
+    other_codes::cases()
+}
+
 pub fn impostor_lists() -> Vec<FixedList> {
     impostors::lists()
+}
+
+/// All of them with their titles, in the order in which a file of calls has them.
+pub fn all() -> [(&'static str, Vec<FixedList>); 11] {
+    [
+        ("Figures 13 to 18", figures()),
+        ("Figures 6, 7, 10 and 11", key_figures()),
+        ("Every bit of the system mask", mask_bits()),
+        ("Bad calls: every combination", bad_calls()),
+        ("Low-address protection", low_addresses()),
+        ("Expanded assist switched on", expanded_assist()),
+        ("Steps of ISK and RRB", key_steps()),
+        ("Second halfword of RRB", second_halfwords()),
+        ("ISK and RRB in the page's own block", own_blocks()),
+        ("First halfwords beside ISK and RRB", other_codes()),
+        ("Lists for the impostors", impostor_lists()),
+    ]
 }

@@ -1,31 +1,33 @@
 //! Calls built so that they complete.
 
+use super::build_key;
 use super::draft::{Draft, Items, Role};
 use super::low_address;
 use super::tables::Mapping;
 use crate::address::{add, subtract};
 use crate::attempt::Instruction;
 
+/// Share of the calls in which a word across a block boundary is looked for among the virtual registers, in percent.
+const REGISTER_ACROSS: u32 = 8;
+
 /// Draft a request for one instruction, with all that it needs in storage.
 pub fn build(draft: &mut Draft, instruction: Instruction) {
-    draft.first_halfword = u16::from(instruction.operation_code()) << 8 | u16::from(draft.random.byte());
+    draft.first_halfword = instruction.first_halfword(draft.random.byte());
     draft.expanded = draft.random.percent(50);
     let micblok = draft.allocate(12, 8, 0);
     draft.guest.control_register_6 |= micblok;
-    if instruction == Instruction::SetStorageKey {
-        super::build_key::build_set_storage_key(draft, micblok);
-        return;
+    match instruction {
+        Instruction::SetStorageKey => build_key::set_storage_key(draft, micblok),
+        Instruction::InsertStorageKey => build_key::insert_storage_key(draft, micblok),
+        Instruction::ResetReferenceBit => build_key::reset_reference_bit(draft, micblok),
+        _ => build_with_operand(draft, micblok, instruction),
     }
-    let bit_2 = draft.random.below(2);
-    draft.guest.control_register_6 |= bit_2 << 29;
+}
+
+fn build_with_operand(draft: &mut Draft, micblok: u32, instruction: Instruction) {
     let pending = draft.random.percent(30);
     put_control_blocks(draft, micblok, instruction, pending);
-    let halfword = draft.allocate(2, 2, 0);
-    draft.note(Role::SecondHalfword, halfword);
-    let mut mapping = draft.guest.dat_on().then(|| Mapping::new(draft));
-    let halfword_logical = logical_of(draft, &mut mapping, halfword);
-    draft.guest.psw_32_63 |= subtract(halfword_logical, 2);
-    permit(draft, halfword, false);
+    let (halfword, mut mapping) = put_instruction(draft);
     let operand = match instruction {
         Instruction::StoreControl => store_control_operand(draft, &mut mapping),
         _ => byte_operand(draft, &mut mapping, instruction, pending),
@@ -36,34 +38,78 @@ pub fn build(draft: &mut Draft, instruction: Instruction) {
     put_second_halfword(draft, halfword, operand);
 }
 
+/// A place for the second halfword, whose contents are put later, and the instruction address; with DAT on the mapping
+/// has its page. Control register 6 bit 2 is random: these instructions do not look at it.
+pub fn put_instruction(draft: &mut Draft) -> (u32, Option<Mapping>) {
+    let bit_2 = draft.random.below(2);
+    draft.guest.control_register_6 |= bit_2 << 29;
+    let halfword = draft.allocate(2, 2, 0);
+    draft.note(Role::SecondHalfword, halfword);
+    let mut mapping = draft.guest.dat_on().then(|| Mapping::new(draft));
+    let halfword_logical = logical_of(draft, &mut mapping, halfword);
+    draft.guest.psw_32_63 |= subtract(halfword_logical, 2);
+    permit(draft, halfword, false);
+    (halfword, mapping)
+}
+
 /// MICCREG, MICVPSW, virtual registers and virtual PSW; bits 0-7 that are not used are random.
 fn put_control_blocks(draft: &mut Draft, micblok: u32, instruction: Instruction, pending: bool) {
     if instruction != Instruction::StoreThenAnd && instruction != Instruction::StoreThenOr {
+        put_ecblok(draft, micblok, instruction);
+    }
+    let virtual_psw = match instruction {
+        Instruction::StoreControl => draft.allocate(2, 2, 0),
+        _ => place_virtual_psw(draft),
+    };
+    put_virtual_psw(draft, micblok, virtual_psw, pending);
+    draft.note(Role::Micvpsw, add(micblok, 8));
+    draft.note(Role::VirtualPsw, virtual_psw);
+}
+
+/// For an instruction that stores in it (STCTL does not even fetch it); in part at a low address.
+fn place_virtual_psw(draft: &mut Draft) -> u32 {
+    low_address::place_field(draft, 2).unwrap_or_else(|| {
         let alignment = draft.block_alignment();
-        let ecblok = draft.allocate(64, alignment, 0);
-        let high = draft.random.word() & 0xFF00_0000;
-        draft.image.put_word(add(micblok, 4), high | ecblok);
-        draft.note(Role::Miccreg, add(micblok, 4));
-        for number in 0..16 {
-            let bit_1 =
-                if number == 0 && instruction == Instruction::SetSystemMask { 0x4000_0000 } else { 0 };
-            let value = draft.random.word() & !bit_1;
-            draft.image.put_word(add(ecblok, 4 * number), value);
-            draft.note(Role::VirtualRegister, add(ecblok, 4 * number));
+        draft.allocate_stored(2, alignment)
+    })
+}
+
+/// MICCREG and the virtual registers.
+fn put_ecblok(draft: &mut Draft, micblok: u32, instruction: Instruction) {
+    let ecblok = place_ecblok(draft, instruction);
+    let high = draft.random.word() & 0xFF00_0000;
+    draft.image.put_word(add(micblok, 4), high | ecblok);
+    draft.note(Role::Miccreg, add(micblok, 4));
+    for number in 0..16 {
+        let bit_1 = if number == 0 && instruction == Instruction::SetSystemMask { 0x4000_0000 } else { 0 };
+        let value = draft.random.word() & !bit_1;
+        draft.image.put_word(add(ecblok, 4 * number), value);
+        draft.note(Role::VirtualRegister, add(ecblok, 4 * number));
+    }
+}
+
+/// In part such that a register that is fetched, of SSM register 0, lies across a block boundary.
+fn place_ecblok(draft: &mut Draft, instruction: Instruction) -> u32 {
+    if draft.random.percent(REGISTER_ACROSS) {
+        let number = match instruction {
+            Instruction::StoreControl => draft.draw_named_register(),
+            _ => 0,
+        };
+        if let Some(ecblok) = draft.allocate_across(64, 4 * number) {
+            return ecblok;
         }
     }
     let alignment = draft.block_alignment();
-    let virtual_psw = match instruction {
-        Instruction::StoreControl => draft.allocate(2, alignment, 0),
-        _ => draft.allocate_stored(2, alignment),
-    };
+    draft.allocate(64, alignment, 0)
+}
+
+/// MICVPSW and the virtual PSW.
+pub fn put_virtual_psw(draft: &mut Draft, micblok: u32, virtual_psw: u32, pending: bool) {
     let pending_bit = if pending { 0x8000_0000 } else { 0 };
     let high = draft.random.word() & 0x7F00_0000;
     draft.image.put_word(add(micblok, 8), pending_bit | high | virtual_psw);
-    draft.note(Role::Micvpsw, add(micblok, 8));
     let value = draft.random.word() as u16;
     draft.image.put_halfword(virtual_psw, value);
-    draft.note(Role::VirtualPsw, virtual_psw);
 }
 
 fn logical_of(draft: &mut Draft, mapping: &mut Option<Mapping>, real: u32) -> u32 {
@@ -192,8 +238,8 @@ fn mapped_words(draft: &mut Draft, mapping: &mut Mapping, items: Items) -> u32 {
     0
 }
 
-/// Base and displacement that give the operand's logical address.
-fn put_second_halfword(draft: &mut Draft, halfword: u32, operand: u32) {
+/// Base and displacement that give the operand's address.
+pub fn put_second_halfword(draft: &mut Draft, halfword: u32, operand: u32) {
     let base_0 = operand < 0x1000 && draft.random.percent(50);
     let base = if base_0 { 0 } else { 1 + draft.random.below(15) };
     let displacement = if base_0 { operand } else { draft.random.below(0x1000) };

@@ -10,18 +10,18 @@ use crate::address::{add, subtract, ADDRESS_MASK};
 /// One damage, chosen at random. Some damages leave a call complete.
 pub fn damage(draft: &mut Draft) {
     match draft.random.below(100) {
-        0..=3 => storage_size(draft),
-        4..=5 => key_count(draft),
-        6..=7 => draft.guest.psw_32_63 |= 1,
-        8..=10 => operation_code_and_more(draft),
-        11..=13 => psw_bits(draft),
-        14..=17 => control_register_6_bits(draft),
-        18..=23 => move_micblok(draft),
-        24..=28 => draft.guest.control_register_0 ^= 1 << (19 + draft.random.below(5)),
-        29..=34 => control_register_1(draft),
-        35..=39 => mask_values(draft),
-        40..=44 => expanded::damage(draft),
-        45..=48 => keys(draft),
+        0..=2 => storage_size(draft),
+        3..=4 => key_count(draft),
+        5..=6 => draft.guest.psw_32_63 |= 1,
+        7..=9 => operation_code_and_more(draft),
+        10..=12 => psw_bits(draft),
+        13..=16 => control_register_6_bits(draft),
+        17..=22 => move_micblok(draft),
+        23..=27 => draft.guest.control_register_0 ^= 1 << (19 + draft.random.below(5)),
+        28..=33 => control_register_1(draft),
+        34..=38 => mask_values(draft),
+        39..=43 => expanded::damage(draft),
+        44..=48 => keys(draft),
         49..=54 => operand_address(draft),
         55..=57 => instruction_address(draft),
         58..=60 => registers(draft),
@@ -91,11 +91,16 @@ fn operation_code_and_more(draft: &mut Draft) {
     }
 }
 
+/// For B2 in part another second byte.
 fn operation_code(draft: &mut Draft) {
+    if draft.first_halfword >> 8 == 0xB2 && draft.random.percent(60) {
+        draft.first_halfword ^= 1 << draft.random.below(8);
+        return;
+    }
     let other = if draft.random.percent(50) {
         u16::from(draft.random.byte())
     } else {
-        draft.random.pick(&[0x80, 0xB6, 0xAC, 0xAD, 0x08, 0x09, 0xAE, 0xB7, 0x82])
+        draft.random.pick(&[0x80, 0xB6, 0xAC, 0xAD, 0x08, 0x09, 0xB2, 0x0A, 0xAE, 0xB7, 0x82])
     };
     draft.first_halfword = other << 8 | draft.first_halfword & 0xFF;
 }
@@ -184,7 +189,11 @@ fn operand_address(draft: &mut Draft) {
     let register = draft.guest.general_registers[base];
     let displacement = draft.image.word(place.address) >> 16 & 0xFFF;
     let moved = match draft.random.below(5) {
-        4 => subtract(draft.random.word() & 0x00FF_FFFC, displacement),
+        // Anywhere, in part with the longest segment table.
+        4 => {
+            draft.guest.control_register_1 |= draft.random.pick(&[0, 0xFF00_0000]);
+            subtract(draft.random.word() & 0x00FF_FFFC, displacement)
+        }
         0 => add(register, draft.random.pick(&[1, 2, 3, 4, 0x800, 0x1000])),
         1 => subtract(register, draft.random.pick(&[1, 2, 3, 4, 0x800, 0x1000])),
         _ => subtract(edge_address(draft) & !3, displacement),

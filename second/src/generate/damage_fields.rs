@@ -18,15 +18,17 @@ pub fn damage_field(draft: &mut Draft) {
 
 /// Invalid bit, format bits, length, or page-table origin.
 fn segment_entry(draft: &mut Draft) {
-    let Some(place) = draft.find(&[Role::SegmentEntry]) else {
+    // RRB has both; that for DAT is damaged more often, as its code differs by format.
+    let of_dat = if draft.random.percent(50) { draft.find(&[Role::SegmentEntry]) } else { None };
+    let Some(place) = of_dat.or_else(|| draft.find(&[Role::SegmentEntry, Role::RealSegmentEntry])) else {
         return any_bit(draft);
     };
     let word = draft.image.word(place.address);
-    let damaged = match draft.random.below(5) {
+    let one_less = (word >> 28).saturating_sub(1) << 28;
+    let damaged = match draft.random.below(4) {
         0 => word | 1,
         1 => word | 0x0100_0000 << draft.random.below(4),
-        2 => word & 0x0FFF_FFFF,
-        3 => word & 0x0FFF_FFFF | (word >> 28).saturating_sub(1) << 28,
+        2 => word & 0x0FFF_FFFF | draft.random.pick(&[0, one_less]),
         _ => word & 0xFF00_0007 | edge_address(draft) & 0x00FF_FFF8,
     };
     draft.image.put_word(place.address, damaged);
@@ -34,7 +36,7 @@ fn segment_entry(draft: &mut Draft) {
 
 /// Invalid bit, format bits, or frame.
 fn page_entry(draft: &mut Draft) {
-    let Some(place) = draft.find(&[Role::PageEntry]) else {
+    let Some(place) = draft.find(&[Role::PageEntry, Role::RealPageEntry]) else {
         return any_bit(draft);
     };
     let entry = (draft.image.word(place.address) >> 16) as u16;
@@ -62,9 +64,9 @@ fn field_address(draft: &mut Draft) {
     draft.image.put_word(place.address, word & kept | address & !kept);
 }
 
-/// The page table just past the top of storage, its swap address still inside (SSK step 9).
+/// The page table just past the top of storage, its swap address still inside (SSK and ISK step 9, RRB step 10).
 fn page_table_at_top(draft: &mut Draft) {
-    let (Some(swap), Some(entry)) = (draft.find(&[Role::SwapAddress]), draft.find(&[Role::SegmentEntry]))
+    let (Some(swap), Some(entry)) = (draft.find(&[Role::SwapAddress]), draft.find(&[Role::RealSegmentEntry]))
     else {
         return segment_entry(draft);
     };
@@ -82,7 +84,10 @@ fn flag_bit(draft: &mut Draft) {
     };
     let word = draft.image.word(place.address);
     let damaged = match place.role {
-        Role::Micrseg => draft.random.pick(&[word ^ 2, word ^ 1, word & ADDRESS_MASK]),
+        Role::Micrseg => {
+            let one_less = word.wrapping_sub(0x0100_0000);
+            draft.random.pick(&[word ^ 2, word ^ 1, word & ADDRESS_MASK, one_less])
+        }
         Role::VirtualRegister => return virtual_register_0_bit_1(draft),
         _ => word ^ 0x0008_0000,
     };

@@ -17,8 +17,12 @@ pub enum Role {
     VirtualPsw,
     SecondHalfword,
     Operand,
+    /// Entries for DAT.
     SegmentEntry,
     PageEntry,
+    /// Entries of the real tables of SSK, ISK and RRB.
+    RealSegmentEntry,
+    RealPageEntry,
     SwapAddress,
     SwapWord,
 }
@@ -55,7 +59,7 @@ impl Items {
 pub struct Room {
     /// For items that are only read.
     pub read: Vec<bool>,
-    /// For items that are stored, and for the page whose key is set.
+    /// For items that are stored, and for the page whose key is set or read whole.
     pub stored: Vec<bool>,
 }
 
@@ -123,6 +127,12 @@ impl Draft {
     pub fn store_control_items(&self) -> Items {
         let (r1, r3) = (self.first_halfword >> 4 & 15, self.first_halfword & 15);
         Items::words(1 + (u32::from(r3) + 16 - u32::from(r1)) % 16)
+    }
+
+    /// One of the registers that STCTL names.
+    pub fn draw_named_register(&mut self) -> u32 {
+        let from_r1 = self.random.below(self.store_control_items().count);
+        (u32::from(self.first_halfword >> 4) + from_r1) % 16
     }
 
     /// An item; its block, or both of a word across a boundary, has a random key from now on.
@@ -216,6 +226,20 @@ impl Draft {
         }
         self.take(address, length);
         address
+    }
+
+    /// A free place, for an item that is only read, whose word at this offset lies across a block boundary; none if
+    /// storage is one block, or after some trials.
+    pub fn allocate_across(&mut self, length: u32, offset: u32) -> Option<u32> {
+        let trials = if self.size() > KEY_BLOCK { 20 } else { 0 };
+        for _ in 0..trials {
+            let address = subtract(self.boundary(), offset + 1 + self.random.below(3));
+            if self.free(address, length) {
+                self.take(address, length);
+                return Some(address);
+            }
+        }
+        None
     }
 
     /// Near the top, near a block boundary or across one, or anywhere.

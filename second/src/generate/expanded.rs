@@ -60,7 +60,8 @@ fn draw_reason(random: &mut Random, instruction: Instruction) -> Option<Reason> 
         (Instruction::SetSystemMask, _) => (false, true, any_bit, true),
         (Instruction::StoreThenAnd, _) => (true, any, per_or_dat, false),
         (Instruction::StoreThenOr, 0..=1) => (true, any, 0x80 >> random.below(6), true),
-        (Instruction::StoreThenOr, _) => (any, true, any_bit, true),
+        (Instruction::StoreThenOr, 2) => (true, true, any_bit, true),
+        (Instruction::StoreThenOr, _) => (false, true, any_bit, true),
         _ => return None,
     };
     Some(Reason { ec_mode, pending, bit, to_one })

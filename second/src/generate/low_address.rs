@@ -9,7 +9,10 @@ use crate::guest::Guest;
 use crate::setup::LOW_ADDRESS_PROTECTION;
 
 /// Share of the operand stores that are built near these addresses, in percent.
-const NEAR: u32 = 33;
+const NEAR: u32 = 45;
+
+/// Share of the virtual PSWs that are looked for there, in percent.
+const FIELDS: u32 = 15;
 
 /// The first logical address that is not protected.
 const FIRST_OPEN: u32 = 512;
@@ -38,19 +41,31 @@ pub fn place(draft: &mut Draft, mapping: &mut Option<Mapping>, items: Items) -> 
             None => draft.take_stored(start, items.count * items.length),
         };
         if placed {
+            // Just above, bit 3 is zero more often than one, as damage sets it.
+            if draft.random.percent(35) {
+                draft.guest.control_register_0 &= !LOW_ADDRESS_PROTECTION;
+            }
             return Some(start);
         }
     }
     None
 }
 
+/// In part a low address for a field of so many bytes that is stored: these addresses are not protected against it.
+pub fn place_field(draft: &mut Draft, length: u32) -> Option<u32> {
+    let address = draft.random.below(FIRST_OPEN);
+    (draft.random.percent(FIELDS) && draft.take_stored(address, length)).then_some(address)
+}
+
 /// Items that end or begin at 512 or lie on both sides of it, that begin at 0 or go round to it, or any near there.
 fn near(random: &mut Random, items: Items) -> u32 {
     let back = |items_before: u32| items.length * items_before;
-    let start = match random.below(8) {
+    let start = match random.below(11) {
         0..=2 => subtract(FIRST_OPEN, back(random.below(items.count + 1))),
-        3..=4 => subtract(0, back(random.below(items.count))),
-        5..=6 => random.pick(&[508, 510, 511, 516]),
+        3..=5 => subtract(0, back(random.below(items.count))),
+        6..=7 => random.pick(&[508, 510, 510, 516]),
+        8 => subtract(FIRST_OPEN, back(items.count)),
+        9 => FIRST_OPEN + random.below(8),
         _ => random.below(520),
     };
     start - start % items.length
@@ -62,7 +77,8 @@ pub fn damage(draft: &mut Draft) {
     if kind != 0 {
         draft.guest.control_register_0 |= LOW_ADDRESS_PROTECTION;
     }
-    if kind < 3 {
+    // RRB stores at no operand.
+    if kind < 3 && draft.first_halfword >> 8 != 0xB2 {
         move_operand(draft);
     }
     if draft.guest.dat_on() && draft.random.percent(30) {
@@ -76,9 +92,14 @@ fn damage_tables(draft: &mut Draft) {
     let segment_entry = draft.guest.control_register_1 & 0x00FF_FFC0;
     let word = draft.image.word(segment_entry);
     let page_entry = word & 0x00FF_FFF8;
-    match draft.random.below(4) {
+    match draft.random.below(5) {
         0 => draft.image.put_word(segment_entry, word | 0x0000_0001),
         1 => draft.image.put_word(segment_entry, word | 0x0100_0000),
+        // The page table just past the top of storage.
+        2 => {
+            let top = draft.size() & ADDRESS_MASK;
+            draft.image.put_word(segment_entry, word & !ADDRESS_MASK | top);
+        }
         // Bit 12 is the invalid bit of 4K pages, bit 13 that of 2K pages.
         _ => {
             let entry = draft.image.word(page_entry) >> 16 | 0x000C;

@@ -6,6 +6,7 @@ mod damage;
 mod damage_fields;
 mod draft;
 mod expanded;
+mod follow_up;
 mod low_address;
 mod pair;
 mod random;
@@ -23,6 +24,9 @@ pub use sizes::{SizeBudget, LARGEST, LARGEST_LARGE, MIB, MOST_KEYS};
 
 /// Share of the calls that are damaged, in percent.
 const DAMAGED: u32 = 75;
+
+/// Share of the calls of a list that follow an earlier one of the same page, in percent, if there is one.
+const FOLLOWING: u32 = 6;
 
 /// Calls on one storage: the first on the image, each later one on what the one before it left.
 #[derive(Clone, Debug)]
@@ -53,9 +57,20 @@ fn undamaged(seed: u64, index: u64) -> Draft {
 }
 
 fn built(mut draft: Draft) -> Draft {
-    let instruction = draft.random.pick(&Instruction::ALL);
+    let instruction = draw_instruction(&mut draft.random);
     build::build(&mut draft, instruction);
     draft
+}
+
+/// SSM, STNSM and STOSM half as often again as the key instructions, which are also drawn where a list or a pair wants
+/// one; STCTL, which has the most words to place and to test, twice as often.
+fn draw_instruction(random: &mut Random) -> Instruction {
+    use Instruction::*;
+    match random.below(19) {
+        0..=5 => random.pick(&[SetStorageKey, InsertStorageKey, ResetReferenceBit]),
+        6..=14 => random.pick(&[SetSystemMask, StoreThenAnd, StoreThenOr]),
+        _ => StoreControl,
+    }
 }
 
 fn damaged_in_part(mut draft: Draft) -> Draft {
@@ -85,10 +100,16 @@ fn chain_random(seed: u64, index: u64) -> Random {
 }
 
 /// Some calls of a list repeat an earlier request: half of these with bit 3 of control register 0 turned over, a
-/// quarter with bit 6 of control register 6.
+/// quarter with bit 6 of control register 6. Some are another key instruction of the page that an earlier one names.
 fn chain(mut draft: Draft, length: usize) -> Chain {
     let mut requests: Vec<Request> = Vec::new();
     while requests.len() < length {
+        if draft.random.percent(FOLLOWING) {
+            if let Some(request) = follow_up::follow_up(&mut draft, &requests) {
+                requests.push(request);
+                continue;
+            }
+        }
         if !requests.is_empty() && draft.random.percent(25) {
             let mut repeated = draft.random.pick(&requests);
             match draft.random.below(4) {
@@ -102,14 +123,23 @@ fn chain(mut draft: Draft, length: usize) -> Chain {
         draft.start_request();
         draft = built(draft);
         match draft.random.below(100) {
-            0..=24 => damage_but_sizes(&mut draft),
-            25..=34 => expanded::damage(&mut draft),
-            35..=46 => low_address::damage(&mut draft),
+            0..=21 => damage_but_sizes(&mut draft),
+            22..=34 => expanded_or_other_damage(&mut draft),
+            35..=51 => low_address::damage(&mut draft),
             _ => {}
         }
         requests.push(draft.request());
     }
     Chain { image: draft.image, requests }
+}
+
+/// A mask that does not pass, if the instruction has one.
+fn expanded_or_other_damage(draft: &mut Draft) {
+    use Instruction::*;
+    match Instruction::of_first_halfword(draft.first_halfword) {
+        Some(SetSystemMask | StoreThenAnd | StoreThenOr) => expanded::damage(draft),
+        _ => damage_but_sizes(draft),
+    }
 }
 
 /// Sizes belong to the whole list and stay as they are.

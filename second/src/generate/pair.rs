@@ -2,9 +2,10 @@
 //! blocks that are in neither part.
 
 use super::draft::{Draft, Room};
+use super::follow_up::follow_up;
 use super::random::Random;
 use super::twin::twin;
-use super::{build, damage_but_sizes, expanded};
+use super::{build, damage_but_sizes, draw_instruction, expanded};
 use crate::attempt::Instruction;
 use crate::call::Request;
 use crate::pairs::{keep_to_their_parts, Pair};
@@ -90,16 +91,22 @@ impl Blocks {
     }
 }
 
-/// The first request of a list is SSK; later ones are any, some repeated, a few damaged or such that they come to
-/// "expanded".
+/// The first request of a list is SSK or RRB; later ones are any, some repeated, some of the page that an earlier one
+/// names, a few damaged or such that they come to "expanded".
 fn next_request(draft: &mut Draft, earlier: &[Request], psw_key: u32) -> Request {
     if !earlier.is_empty() && draft.random.percent(20) {
         return draft.random.pick(earlier);
     }
+    if draft.random.percent(10) {
+        if let Some(request) = follow_up(draft, earlier) {
+            return request;
+        }
+    }
     draft.start_request();
     draft.guest.psw_0_31 = draft.guest.psw_0_31 & 0xFF0F_FFFF | psw_key << 20;
+    let set_a_key = [Instruction::SetStorageKey, Instruction::ResetReferenceBit];
     let instruction =
-        if earlier.is_empty() { Instruction::SetStorageKey } else { draft.random.pick(&Instruction::ALL) };
+        if earlier.is_empty() { draft.random.pick(&set_a_key) } else { draw_instruction(&mut draft.random) };
     build::build(draft, instruction);
     match draft.random.below(100) {
         0..=9 => damage_but_sizes(draft),

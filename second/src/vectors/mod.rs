@@ -4,9 +4,7 @@ mod singles;
 pub mod text;
 
 use crate::call::{Request, StorageImage};
-use crate::fixed::{
-    bad_calls, expanded_assist, figures, impostor_lists, low_addresses, mask_bits, FixedList,
-};
+use crate::fixed::{self, FixedList};
 use crate::generate::{generate_chain_of_size, generate_pair, Random, SizeBudget};
 use crate::report::{micrseg, Tally};
 use singles::Singles;
@@ -56,9 +54,9 @@ impl VectorSet {
         if !options.large {
             set.fixed_calls();
         }
-        let in_pairs = options.calls / 4 / 2 * 2;
-        let in_lists = options.calls * 45 / 100;
-        set.single_calls(options.calls - set.file.calls as usize - in_lists - in_pairs);
+        let left = options.calls - set.file.calls as usize;
+        let (in_lists, in_pairs) = lists_and_pairs(options.calls, left);
+        set.single_calls(left - in_lists - in_pairs);
         set.lists(in_lists);
         set.pairs(in_pairs);
         set.file.end();
@@ -94,13 +92,16 @@ impl VectorSet {
         }
     }
 
+    /// Figures, then single calls, at last lists.
     fn fixed_calls(&mut self) {
-        self.shares.figures = self.fixed_lists("Figures 13 to 18", &figures());
-        self.shares.single = self.fixed_lists("Every bit of the system mask", &mask_bits());
-        self.shares.single += self.fixed_lists("Bad calls: every combination", &bad_calls());
-        self.shares.single += self.fixed_lists("Low-address protection", &low_addresses());
-        self.shares.single += self.fixed_lists("Expanded assist switched on", &expanded_assist());
-        self.shares.in_lists = self.fixed_lists("Lists for the impostors", &impostor_lists());
+        for (title, lists) in fixed::all() {
+            let calls = self.fixed_lists(title, &lists);
+            match title {
+                title if title.starts_with("Figures") => self.shares.figures += calls,
+                title if title.starts_with("Lists") => self.shares.in_lists += calls,
+                _ => self.shares.single += calls,
+            }
+        }
     }
 
     /// Gives the number of calls.
@@ -169,6 +170,14 @@ impl VectorSet {
         }
         self.shares.in_pairs = calls;
     }
+}
+
+/// How many calls are in lists and in pairs of lists: 45 % and 25 % of all, but in a small set, of which the fixed
+/// calls take much, no more than nine and five of sixteen that are left.
+fn lists_and_pairs(calls: usize, left: usize) -> (usize, usize) {
+    let in_lists = (calls * 45 / 100).min(left * 9 / 16);
+    let in_pairs = (calls / 4).min(left * 5 / 16) / 2 * 2;
+    (in_lists, in_pairs)
 }
 
 /// A number from `least` to `most` that leaves zero or at least `least`; more than `most` if it must be.

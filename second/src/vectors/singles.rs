@@ -5,21 +5,23 @@ use std::collections::BTreeMap;
 use crate::attempt::{Answer, Instruction};
 use crate::call::Call;
 use crate::generate::{generate_of_size, LARGEST, LARGEST_LARGE};
-use crate::references::ReferenceKind;
-use crate::report::{point, Point};
+use crate::references::{Reference, ReferenceKind};
+use crate::report::{point, translation_words, Point};
 
 /// Calls among which the one with the most seldom ending is chosen.
-const CANDIDATES: u64 = 16;
+const CANDIDATES: u64 = 32;
 
 /// Trials for a call with an item that goes round.
 const ROUND_TRIALS: u64 = 10_000;
 
 /// Items that can go round from FFFFFF to 000000.
-const ROUND_ITEMS: [RoundItem; 6] = [
+const ROUND_ITEMS: [RoundItem; 8] = [
     RoundItem::Micblok,
     RoundItem::VirtualRegister,
     RoundItem::VirtualPsw,
-    RoundItem::SwapWord,
+    RoundItem::SwapWord(Instruction::SetStorageKey),
+    RoundItem::SwapWord(Instruction::InsertStorageKey),
+    RoundItem::SwapWord(Instruction::ResetReferenceBit),
     RoundItem::Operand,
     RoundItem::ProtectedOperand,
 ];
@@ -30,7 +32,7 @@ enum RoundItem {
     Micblok,
     VirtualRegister,
     VirtualPsw,
-    SwapWord,
+    SwapWord(Instruction),
     /// Words of STCTL at FFFFFC and 000000.
     Operand,
     /// The same, refused by low-address protection (document 02, R-6).
@@ -42,7 +44,53 @@ pub struct Singles {
     large: bool,
     made: u64,
     drawn: u64,
-    reached: BTreeMap<Point, u64>,
+    reached: BTreeMap<Reached, u64>,
+}
+
+/// Where a call ended, and in which way.
+type Reached = (Point, Way);
+
+/// For an access of RRB the format. For a word of STCTL whether another has passed its test before. For a mask that
+/// does not pass the mode of the virtual PSW, whether the expanded assist is installed, and whether it is switched on.
+#[derive(Clone, Copy, Debug, PartialEq, Eq, PartialOrd, Ord)]
+enum Way {
+    Only,
+    Format(&'static str),
+    Word { another_passed: bool },
+    Mask { ec_mode: bool, installed: bool, switched_on: bool },
+}
+
+fn reached(call: &Call) -> Reached {
+    let answer = call.make();
+    (point(&call.request, &answer), way(call, &answer))
+}
+
+fn way(call: &Call, answer: &Answer) -> Way {
+    use Instruction::*;
+    let request = &call.request;
+    match (Instruction::of_first_halfword(request.first_halfword), answer.at_step) {
+        (Some(ResetReferenceBit), 4) => Way::Format(translation_words(request)),
+        (Some(StoreControl), 5) if answer.at_walk_step != 0 => {
+            Way::Word { another_passed: another_word_passed(answer) }
+        }
+        (Some(SetSystemMask), 9) | (Some(StoreThenAnd | StoreThenOr), 4) => Way::Mask {
+            ec_mode: virtual_ec_mode(call, answer),
+            installed: request.expanded,
+            switched_on: request.guest.expanded_switched_on(),
+        },
+        _ => Way::Only,
+    }
+}
+
+/// Keys were consulted for the second halfword and each word that passed, and for the last one if its key protects it.
+fn another_word_passed(answer: &Answer) -> bool {
+    let keys = answer.references.iter().filter(|entry| entry.kind == ReferenceKind::KeyConsulted).count();
+    keys > if answer.at_walk_step == 8 { 2 } else { 1 }
+}
+
+/// The virtual PSW was fetched last.
+fn virtual_ec_mode(call: &Call, answer: &Answer) -> bool {
+    answer.references.last().is_some_and(|entry| call.image.byte(entry.bytes[1]) & 0x08 != 0)
 }
 
 impl Singles {
@@ -61,7 +109,7 @@ impl Singles {
         } else {
             self.seldom(size)
         };
-        *self.reached.entry(point(&call.request, &call.make())).or_default() += 1;
+        *self.reached.entry(reached(&call)).or_default() += 1;
         call
     }
 
@@ -84,15 +132,14 @@ impl Singles {
     }
 
     fn times_reached(&self, call: &Call) -> u64 {
-        self.reached.get(&point(&call.request, &call.make())).copied().unwrap_or(0)
+        self.reached.get(&reached(call)).copied().unwrap_or(0)
     }
 
     /// A call in 16 MiB with this item going round; the last one drawn if there is none.
     fn going_round(&mut self, item: RoundItem) -> Call {
         let mut call = self.draw(0x100_0000);
         for _ in 0..ROUND_TRIALS {
-            let micblok = call.request.guest.micblok_address();
-            if item.may_be_in(&call) && round_items(micblok, &call.make()).contains(&item) {
+            if item.may_be_in(&call) && round_items(&call).contains(&item) {
                 break;
             }
             call = self.draw(0x100_0000);
@@ -105,11 +152,11 @@ impl RoundItem {
     /// Whether it is worth while to make the call.
     fn may_be_in(self, call: &Call) -> bool {
         use Instruction::*;
-        let instructions: &[Instruction] = match self {
+        let instructions: &[Instruction] = match &self {
             RoundItem::Micblok => return call.request.guest.micblok_address() == 0xFF_FFF8,
             RoundItem::VirtualRegister => &[SetSystemMask, StoreControl],
-            RoundItem::VirtualPsw => &[SetSystemMask, StoreThenAnd, StoreThenOr],
-            RoundItem::SwapWord => &[SetStorageKey],
+            RoundItem::VirtualPsw => &[SetSystemMask, StoreThenAnd, StoreThenOr, InsertStorageKey],
+            RoundItem::SwapWord(instruction) => std::slice::from_ref(instruction),
             RoundItem::Operand => &[StoreControl],
             RoundItem::ProtectedOperand if call.request.guest.low_address_protection() => &[StoreControl],
             RoundItem::ProtectedOperand => &[],
@@ -120,9 +167,10 @@ impl RoundItem {
 }
 
 /// The items of a completed attempt that go round, or the operand of one that is refused by low-address protection.
-fn round_items(micblok: u32, answer: &Answer) -> Vec<RoundItem> {
+fn round_items(call: &Call) -> Vec<RoundItem> {
+    let (micblok, answer) = (call.request.guest.micblok_address(), call.make());
     let mut items = Vec::new();
-    if low_after_another_word(answer) {
+    if low_after_another_word(&answer) {
         items.push(RoundItem::ProtectedOperand);
     }
     if answer.ending.number() != 0 {
@@ -134,13 +182,16 @@ fn round_items(micblok: u32, answer: &Answer) -> Vec<RoundItem> {
     if micblok == 0xFF_FFF8 && first_bytes(ReferenceKind::ControlField).any(|byte| byte == 0) {
         items.push(RoundItem::Micblok);
     }
-    for entry in
-        answer.references.iter().filter(|entry| entry.bytes.windows(2).any(|two| two == [0xFF_FFFF, 0]))
-    {
+    let goes_round = |entry: &&Reference| entry.bytes.windows(2).any(|two| two == [0xFF_FFFF, 0]);
+    for entry in answer.references.iter().filter(goes_round) {
         match (entry.kind, entry.bytes.len()) {
             (ReferenceKind::VirtualRegister, _) => items.push(RoundItem::VirtualRegister),
             (ReferenceKind::ControlField, 2) => items.push(RoundItem::VirtualPsw),
-            (ReferenceKind::Store, 4) => items.push(RoundItem::SwapWord),
+            // MICBLOK's words and table entries are on their boundaries.
+            (ReferenceKind::ControlField, 4) => {
+                let instruction = Instruction::of_first_halfword(call.request.first_halfword);
+                items.extend(instruction.map(RoundItem::SwapWord));
+            }
             _ => {}
         }
     }

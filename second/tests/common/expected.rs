@@ -1,6 +1,11 @@
 //! What an edge or another fixed call must give.
 #![allow(dead_code)]
 
+#[path = "set.rs"]
+mod set;
+
+pub use set::Set;
+
 pub type Change = (u32, u8, u8);
 
 pub struct Expected {
@@ -11,6 +16,20 @@ pub struct Expected {
     pub bytes: Vec<Change>,
     pub keys: Vec<Change>,
     pub next: u32,
+    /// What is set in the record besides the next address.
+    pub set: Set,
+}
+
+impl Expected {
+    /// ISK: register R1 afterwards.
+    pub fn register(self, number: usize, contents: u32) -> Expected {
+        Expected { set: Set::Register(number, contents), ..self }
+    }
+
+    /// RRB: real PSW bits 18-19 afterwards.
+    pub fn condition_code(self, code: u32) -> Expected {
+        Expected { set: Set::ConditionCode(code), ..self }
+    }
 }
 
 pub fn expect(
@@ -21,7 +40,7 @@ pub fn expect(
     keys: &[Change],
     next: u32,
 ) -> Expected {
-    Expected { name, ending, count, bytes: bytes.to_vec(), keys: keys.to_vec(), next }
+    Expected { name, ending, count, bytes: bytes.to_vec(), keys: keys.to_vec(), next, set: Set::Nothing }
 }
 
 /// Words stored over zeros, none of whose bytes is zero.

@@ -2,11 +2,14 @@
 #![allow(dead_code)]
 
 pub mod recorded;
+mod set;
 
 use recorded::keys_after;
 use second::call::{changes, Change};
 use second::setup::Setup;
 use second::{Answer, ReferenceKind};
+
+pub use set::Set;
 
 pub const COMPLETED: (u32, u32, u32) = (0, 0, 0);
 pub const REFUSED: (u32, u32, u32) = (1, 2, 0);
@@ -23,8 +26,9 @@ pub fn page_translation(logical_address: u32) -> (u32, u32, u32) {
     (1, 17, logical_address)
 }
 
-pub fn not_in_storage(step: u32) -> (u32, u32, u32) {
-    (3, step, 0)
+/// Ending 3: the step, for ISK and RRB the place.
+pub fn not_in_storage(step_or_place: u32) -> (u32, u32, u32) {
+    (3, step_or_place, 0)
 }
 
 /// What a set-up gives.
@@ -60,17 +64,23 @@ pub fn run(setup: &Setup) -> Ran {
 /// Run and check ending, count, that only completion changes storage and record, and that the keys are as the list of
 /// references says.
 pub fn expect(setup: &Setup, ending: (u32, u32, u32), count: usize) -> Ran {
+    expect_set(setup, ending, count, Set::Nothing)
+}
+
+/// The same; this, and the next address, is what completion sets in the record.
+pub fn expect_set(setup: &Setup, ending: (u32, u32, u32), count: usize, set: Set) -> Ran {
     let ran = run(setup);
     let given = ran.answer.ending;
     assert_eq!((given.number(), given.code_or_step(), given.logical_address()), ending);
     assert_eq!(ran.answer.count(), count);
     let mut record = setup.guest;
     if ending.0 == 0 {
-        let length = if setup.first_halfword >> 8 == 0x08 { 2 } else { 4 };
+        let length = set::length(setup.first_halfword);
         let next = (setup.guest.psw_32_63 & 0x00FF_FFFF).wrapping_add(length) & 0x00FF_FFFF;
+        record = set.in_record(record);
         record.psw_32_63 = (setup.guest.psw_32_63 & 0xFF00_0000) | next;
     } else {
-        assert_eq!(ran.bytes, []);
+        assert_eq!((ran.bytes.as_slice(), set), (&[][..], Set::Nothing));
     }
     assert_eq!(ran.answer.guest, record);
     let keys_before = setup.image.key_bytes();

@@ -11,10 +11,15 @@ pub fn keys_after(before: &[u8], request: &Request, references: &[Reference]) ->
             keys[*byte as usize / 2_048] |= bits;
         }
         if let (ReferenceKind::KeySet, Some(number)) = (entry.kind, entry.key) {
-            // Bits 0-4 from register R1 bits 24-28, bits 5 and 6 zero, bit 7 as found.
-            let r1 = request.guest.general_registers[usize::from(request.first_halfword >> 4 & 15)];
             let key = &mut keys[number as usize];
-            *key = r1 as u8 & 0xF8 | *key & 0x01;
+            *key = if request.first_halfword == 0xB213 {
+                // RRB: the reference bit zero, nothing else changed.
+                *key & 0xFB
+            } else {
+                // SSK: bits 0-4 from register R1 bits 24-28, bits 5 and 6 zero, bit 7 as found.
+                let r1 = request.guest.general_registers[usize::from(request.first_halfword >> 4 & 15)];
+                r1 as u8 & 0xF8 | *key & 0x01
+            };
         }
     }
     keys

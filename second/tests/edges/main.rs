@@ -6,16 +6,20 @@
 
 #[path = "../common/expected.rs"]
 mod expected;
+mod insert_key;
 mod low_addresses;
 mod recording;
+mod reset_bit;
 mod section;
 mod wrong_turns;
 
 use std::collections::BTreeSet;
 
 use expected::Expected;
+use insert_key::*;
 use low_addresses::*;
 use recording::*;
+use reset_bit::*;
 use second::edges::{large, small, Edge};
 use section::*;
 use wrong_turns::*;
@@ -25,6 +29,8 @@ fn expectations() -> Vec<Expected> {
     list.extend(set_system_mask());
     list.extend(store_then());
     list.extend(set_storage_key());
+    list.extend(insert_storage_key());
+    list.extend(reset_reference_bit());
     list.extend(set_storage_key_recording());
     list.extend(other_recording());
     list.extend(store_then_low());
@@ -46,6 +52,8 @@ fn every_edge_gives_what_the_paper_says() {
 fn every_edge_in_16_mib_gives_what_the_paper_says() {
     let mut list = large_store_control();
     list.extend(large_low());
+    list.push(large_insert_storage_key());
+    list.push(large_reset_reference_bit());
     check(&large(), &list);
 }
 
@@ -64,7 +72,7 @@ fn check(edges: &[Edge], expectations: &[Expected]) {
         assert_eq!(result.keys, expected.keys, "{:?}", expected.name);
         let record = result.answer.guest;
         assert_eq!(record.instruction_address(), expected.next, "{:?}", expected.name);
-        let mut alike = edge.request.guest;
+        let mut alike = expected.set.in_record(edge.request.guest);
         alike.psw_32_63 = record.psw_32_63;
         assert_eq!(record, alike, "nothing else in the record changes: {:?}", expected.name);
     }
@@ -79,13 +87,18 @@ fn storage_of_the_edges() {
 }
 
 /// 45 small edges and 4 large ones are those of document 01, recording and the wrong turns; 14 more since document 02,
-/// R-3, and 21 and 2 of low-address protection.
+/// R-3, 21 and 2 of low-address protection; 34 of ISK and 38 of RRB, and one each in 16 MiB (R-4).
 #[test]
 fn number_of_edges() {
-    assert_eq!((small().len(), large().len()), (45 + 14 + 21, 4 + 2));
+    assert_eq!((small().len(), large().len()), (45 + 14 + 21 + 34 + 38, 4 + 2 + 2));
     let case = |place: usize| small()[place].case.clone();
-    assert!(case(39).contains("store test records nothing") && case(40).contains("bit 3"));
-    assert!(case(60).contains("bit 3") && case(61).starts_with("wrong turn 1"));
+    assert!(
+        case(32).ends_with("old key 04, valid page, bit 20 one") && case(33).starts_with("EC, page valid")
+    );
+    assert!(case(66).starts_with("virtual PSW in the page") && case(67).starts_with("key F9, swap word"));
+    assert!(case(104) == "first halfword B214" && case(105) == "tables in the page's own block");
+    assert!(case(111).contains("store test records nothing") && case(112).contains("bit 3"));
+    assert!(case(132).contains("bit 3") && case(133).starts_with("wrong turn 1"));
 }
 
 /// Document 01 marks three edges of STCTL, five of SSM, two of STNSM, one of STOSM, which is given in both modes, and
@@ -94,8 +107,8 @@ fn number_of_edges() {
 fn marked_edges() {
     let marked =
         |mnemonic: &str| small().iter().filter(|edge| edge.marked && edge.mnemonic() == mnemonic).count();
-    let counts = ["STCTL", "SSM", "STNSM", "STOSM", "SSK"].map(marked);
-    assert_eq!(counts, [3, 5 + 3, 2 + 1, 2, 2]);
+    let counts = ["STCTL", "SSM", "STNSM", "STOSM", "SSK", "ISK", "RRB", "other"].map(marked);
+    assert_eq!(counts, [3, 5 + 3, 2 + 1, 2, 2, 0, 0, 0]);
     assert!(large().iter().all(|edge| !edge.marked));
 }
 
@@ -112,10 +125,34 @@ fn set_up_of_bit_6() {
             case if case.contains("bits 2-5 and 7 one, bit 6 zero") => 0xBD,
             case if case.contains("bits 2, 4, 5 and 7 one, bit 6 zero") => 0xAD,
             case if case.contains("bit 6 one") || wrong_turn_3 => 0x82,
+            case if case.ends_with("bits 0-3 1010") => 0xA0,
+            case if case.ends_with("bits 0-3 1001") => 0x90,
+            case if case.ends_with("bits 0-3 1100") => 0xC0,
             _ => 0x80,
         };
         assert_eq!(request.guest.control_register_6 >> 24, bits, "{case}");
     }
+}
+
+/// ISK's register and RRB's condition code stand in the line, whatever the ending; ending 3 has the place.
+#[test]
+fn lines_of_the_key_instructions() {
+    let lines: Vec<String> = small().iter().map(Edge::line).collect();
+    for line in [
+        "ISK   R1 and R2 register 15 | ending 0 completed | count 8 | next 001002 | register 15: 5A0230AE | \
+         bytes: none; keys: 0: 00 -> 04, 1: 00 -> 04",
+        "ISK   page invalid, MICVPSW at 4000 | ending 3 not in storage, place 6 | count 5 | next 001000 | \
+         register 3: ABCDEF3F | bytes: none; keys: 1: 00 -> 04, 7: 00 -> 04",
+        "RRB   key FF, swap word 50C3F9FF, bit 20 zero | ending 0 completed | count 10 | next 001004 | \
+         condition code 3 | bytes: 000D18: 50 -> 5C; keys: 0: 00 -> 04, 1: 00 -> 06, 2: 00 -> 04, 4: FF -> FB",
+        "RRB   second halfword's page invalid | ending 1 interruption 17 (page translation at 001002) | count 3 \
+         | next 001000 | condition code 1 | bytes: none; keys: 0: 00 -> 04, 6: 00 -> 04",
+        "other first halfword B212 | ending 13 operation code | count 0 | next 001000 | bytes: none; keys: none",
+    ] {
+        assert!(lines.iter().any(|one| one == line), "{line}");
+    }
+    let with = |words: &str| lines.iter().filter(|line| line.contains(words)).count();
+    assert_eq!((with(" | register "), with(" | condition code ")), (34, 36));
 }
 
 #[test]

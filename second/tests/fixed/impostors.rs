@@ -7,6 +7,7 @@ pub fn impostors() -> Vec<Expected> {
     let mut list = list_of_masks();
     list.extend(list_of_keys());
     list.extend(list_of_register_0());
+    list.extend(list_of_one_page());
     list
 }
 
@@ -61,6 +62,28 @@ fn list_of_keys() -> Vec<Expected> {
             &[(2, 0x39, 0xC1)],
             0x1002,
         ),
+    ]
+}
+
+/// The page is in frame 002, block 4; the swap word 50C3FDFF is at D18.
+fn list_of_one_page() -> Vec<Expected> {
+    let call = |name, count, bytes: &[Change], keys: &[Change], next| {
+        expect(name, COMPLETED, count, bytes, keys, next)
+    };
+    let first_keys = [(0, 0x00, 0x04), (1, 0x00, 0x06), (2, 0x00, 0x04), (4, 0xFF, 0xFB)];
+    let first = ("RRB", "list of four, call 1: key FF, virtual key FD");
+    let second = ("RRB", "list of four, call 2: key FB and virtual key F9 from call 1");
+    let third = ("SSK", "list of four, call 3: key FB from call 1, R1 C4");
+    let fourth = ("ISK", "list of four, call 4: key C1 and virtual key C4 from call 3");
+    vec![
+        // FF: both bits, 50 OR 0C is 5C; the virtual reference bit goes.
+        call(first, 10, &[(0xD18, 0x50, 0x5C), (0xD1A, 0xFD, 0xF9)], &first_keys, 0x1004).condition_code(3),
+        // The change bit of the key alone is left.
+        call(second, 10, &[], &[], 0x1004).condition_code(1),
+        // C4: key C0 and bit 7 as found.
+        call(third, 8, &[(0xD1A, 0xF9, 0xC4)], &[(4, 0xFB, 0xC1)], 0x1006),
+        // C0, and the virtual reference bit; C1 has neither.
+        call(fourth, 8, &[], &[], 0x1008).register(3, 0xABCD_EFC4),
     ]
 }
 

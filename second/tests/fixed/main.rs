@@ -7,21 +7,26 @@
 mod expanded;
 #[path = "../common/expected.rs"]
 mod expected;
+mod figure_10;
+mod figure_6;
 mod figures_13_14;
 mod figures_15_to_18;
+mod figures_7_11;
 mod impostors;
+mod key_steps;
 mod low_addresses;
 mod mask_bits;
 mod order;
+mod other_codes;
+mod own_block;
+mod second_halfword;
 
-use std::collections::BTreeMap;
+use std::collections::{BTreeMap, BTreeSet};
 
 use expected::Expected;
 use second::call::changes;
-use second::fixed::{
-    bad_calls, expanded_assist, figures, impostor_lists, low_addresses, mask_bits, Field, FixedList,
-};
-use second::{Call, ReferenceKind};
+use second::fixed::{self, figures, impostor_lists, key_figures, own_blocks, Field, FixedList};
+use second::{Call, Guest, ReferenceKind};
 
 #[test]
 fn figures_give_what_the_paper_says() {
@@ -32,6 +37,20 @@ fn figures_give_what_the_paper_says() {
     expectations.extend(figures_15_to_18::figure_17());
     expectations.extend(figures_15_to_18::figure_18());
     check(&figures(), &expectations);
+}
+
+#[test]
+fn figures_of_the_key_instructions_give_what_the_papers_say() {
+    let mut expectations = figure_6::figure_6();
+    expectations.extend(figures_7_11::figure_7());
+    expectations.extend(figure_10::figure_10());
+    expectations.extend(figures_7_11::figure_11());
+    check(&key_figures(), &expectations);
+}
+
+#[test]
+fn fetches_in_the_page_s_own_block_give_what_the_papers_say() {
+    check(&own_blocks(), &own_block::own_block());
 }
 
 #[test]
@@ -55,7 +74,7 @@ fn check(lists: &[FixedList], expectations: &[Expected]) {
             assert_eq!(answer.count(), expected.count, "{:?}", expected.name);
             assert_eq!(changes(&storage_before, &storage), expected.bytes, "{:?}", expected.name);
             assert_eq!(changes(&keys_before, &keys), expected.keys, "{:?}", expected.name);
-            let mut record = call.request.guest;
+            let mut record = expected.set.in_record(call.request.guest);
             record.psw_32_63 = expected.next;
             assert_eq!(answer.guest, record, "{:?}", expected.name);
         }
@@ -63,23 +82,21 @@ fn check(lists: &[FixedList], expectations: &[Expected]) {
     assert_eq!(expectations.count(), 0);
 }
 
+/// And no two calls have the same instruction and case.
 #[test]
 fn every_case_fits_in_a_comment() {
-    let lists =
-        [figures(), mask_bits(), bad_calls(), low_addresses(), expanded_assist(), impostor_lists()].concat();
-    for list in &lists {
+    let mut names = BTreeSet::new();
+    for list in fixed::all().into_iter().flat_map(|(_, lists)| lists) {
         for call in &list.calls {
-            assert!(
-                call.case.is_ascii() && call.mnemonic().len() + 1 + call.case.len() <= 77,
-                "{}",
-                call.case
-            );
+            let name = format!("{} {}", call.mnemonic(), call.case);
+            assert!(name.is_ascii() && name.len() <= 77, "{name}");
+            assert!(names.insert(name.clone()), "{name}");
         }
     }
 }
 
-/// Ending, count, bytes stored and keys set.
-type Outcome = ((u32, u32), usize, BTreeMap<u32, u8>, BTreeMap<u32, u8>);
+/// Ending, count, bytes stored, keys set and the record handed back.
+type Outcome = ((u32, u32), usize, BTreeMap<u32, u8>, BTreeMap<u32, u8>, Guest);
 
 fn outcome(call: &Call) -> Outcome {
     let (mut storage, mut keys) = (call.image.storage(), call.image.key_bytes());
@@ -92,6 +109,7 @@ fn outcome(call: &Call) -> Outcome {
         answer.count(),
         stored.map(|&byte| (byte, storage[byte as usize])).collect(),
         set.map(|key| (key, keys[key as usize])).collect(),
+        answer.guest,
     )
 }
 
@@ -108,7 +126,7 @@ fn looked_for_elsewhere(call: &Call, field: Field, shift: u32) -> Call {
 #[test]
 fn a_field_looked_for_elsewhere_gives_something_else() {
     let mut fields = 0;
-    for list in figures() {
+    for list in figures().into_iter().chain(key_figures()) {
         let call = Call { image: list.image.clone(), request: list.calls[0].request };
         let right = outcome(&call);
         for field in list.fields {
@@ -119,5 +137,5 @@ fn a_field_looked_for_elsewhere_gives_something_else() {
             }
         }
     }
-    assert!(fields > 100, "{fields}");
+    assert!(fields > 270, "{fields}");
 }

@@ -141,6 +141,21 @@ fn taken_from_calls() {
     assert_eq!(taken(&Setup::stctl(1, 0).size(0x4001)), (10, 0, 0, 0x1000, 0));
 }
 
+/// ISK and RRB: the place of ending 3; the record is that before the call (`taken` looks at it), so that what
+/// they set is not in it.
+#[test]
+fn taken_from_key_instructions() {
+    assert_eq!(taken(&Setup::isk(0x08)), (0, 0, 8, 0x1002, 0));
+    assert_eq!(taken(&Setup::rrb()), (0, 0, 10, 0x1004, 0));
+    // Virtual PSW at 3FFF: place 8, of an invalid page 7. Key block of RRB: place 6.
+    let isk = Setup::isk(0x08).word(0x408, 0x3FFF);
+    assert_eq!(taken(&isk), (3, 8, 7, 0x1000, 0));
+    assert_eq!(taken(&isk.halfword(0xC16, 0x0018)), (3, 7, 6, 0x1000, 0));
+    assert_eq!(taken(&Setup::rrb().halfword(0xC16, 0x0FF0)), (3, 6, 7, 0x1000, 0));
+    // RRB: MICRSEG, segment entry; page index 1 exceeds length 0.
+    assert_eq!(taken(&Setup::rrb().dat(0b10000)), (1, 17, 2, 0x1000, 0x1002));
+}
+
 /// The address is bits 40-63 of the PSW handed back; bits 32-39 are no part of it, and it goes round.
 #[test]
 fn next_address_has_24_bits() {

@@ -126,7 +126,7 @@ fn the_stored_set_has_the_flag_and_bit_6_both_ways() {
 #[test]
 fn random_calls_have_the_flag_and_bit_6_both_ways() {
     let mut tally = ExpandedTally::default();
-    for index in 0..10_000 {
+    for index in 0..12_000 {
         let Call { image, request } = generate(20_260_402, index);
         let (storage, keys) = (image.storage(), image.key_bytes());
         let answer = request.make(&mut storage.clone(), &mut keys.clone());

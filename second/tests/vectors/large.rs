@@ -25,7 +25,11 @@ fn going_round(call: &ReadCall, answer: &Answer) -> Vec<&'static str> {
             items.push(match (entry.kind, entry.bytes.len()) {
                 (ReferenceKind::VirtualRegister, _) => "virtual register",
                 (ReferenceKind::ControlField, 2) => "virtual PSW",
-                (ReferenceKind::Store, 4) => "swap word",
+                (ReferenceKind::ControlField, 4) => match call.request.first_halfword >> 8 {
+                    0x08 => "swap word of SSK",
+                    0x09 => "swap word of ISK",
+                    _ => "swap word of RRB",
+                },
                 _ => "other",
             });
         }
@@ -48,7 +52,7 @@ fn records_round_the_top(call: &ReadCall, answer: &Answer) -> bool {
 
 #[test]
 fn sizes_and_items_that_go_round() {
-    let set = VectorSet::new(SetOptions { seed: 1, calls: 50, large: true });
+    let set = VectorSet::new(SetOptions { seed: 1, calls: 60, large: true });
     let (mut sizes, mut items, mut completed, mut recorded) = (Vec::new(), BTreeSet::new(), 0, 0);
     let printed = read(set.stdin(), &mut |call: &ReadCall, answer: &Answer| {
         sizes.push(call.storage.len());
@@ -61,15 +65,18 @@ fn sizes_and_items_that_go_round() {
         }
     });
     assert!(printed == set.stdout());
-    assert_eq!((sizes.len(), set.shares.figures), (50, 0));
+    assert_eq!((sizes.len(), set.shares.figures), (60, 0));
     let of_size = |range: RangeInclusive<usize>| sizes.iter().filter(|size| range.contains(size)).count();
-    assert_eq!(of_size(0..=16_779_264), 50);
-    assert!(of_size(0x100_0000..=0x100_0000) >= 25);
+    assert_eq!(of_size(0..=16_779_264), 60);
+    assert!(of_size(0x100_0000..=0x100_0000) >= 30);
     assert!(of_size(16_779_264..=16_779_264) >= 1);
     assert!(of_size(4_194_305..=16_777_215) >= 1);
     assert!(completed >= 20, "{completed}");
     assert!(recorded >= 3, "{recorded}");
-    for item in ["MICBLOK", "virtual register", "virtual PSW", "swap word", "operand", "protected operand"] {
+    for item in ["MICBLOK", "virtual register", "virtual PSW", "operand", "protected operand"] {
         assert!(items.contains(item), "{item}");
+    }
+    for mnemonic in ["SSK", "ISK", "RRB"] {
+        assert!(items.contains(format!("swap word of {mnemonic}").as_str()), "{mnemonic}");
     }
 }

@@ -147,7 +147,7 @@ impl LowAddressTally {
         if answer.references.iter().filter(low).any(fetches_operand) {
             self.found("operand byte fetched");
         }
-        // The last store of SSM, STNSM, STOSM and SSK is that of a control field.
+        // The last store of SSM, STNSM, STOSM, SSK and RRB is that of a control field.
         let last = answer.references.last().filter(low).map(|entry| entry.kind);
         if call.request.first_halfword >> 8 != 0xB6 && last == Some(ReferenceKind::Store) {
             self.found(format!(
@@ -236,7 +236,7 @@ fn the_stored_set_shows_what_protection_comes_before_and_does_not_affect() {
         assert!(tally.times(&name) > least, "{name}: {}", tally.times(&name));
     }
     assert!(tally.times("operand byte fetched") > 50);
-    for code in ["08", "80", "AC", "AD"] {
+    for code in ["08", "80", "AC", "AD", "B2"] {
         let name = format!("control field stored, operation code {code}");
         assert!(tally.times(&name) > 30, "{name}: {}", tally.times(&name));
     }

@@ -56,8 +56,8 @@ impl RecordingTally {
         self.add_store_test(call, answer);
     }
 
-    /// SSK step 11: whether its fetches have recorded in the block whose key it reads, and whether it then stores in
-    /// it.
+    /// SSK step 11 and RRB step 12: whether its fetches have recorded in the block whose key it reads, and whether it
+    /// then stores in it. Of ISK see `key_calls`.
     fn add_key_read(&mut self, call: &ReadCall, answer: &Answer) {
         let entries = &answer.references;
         let Some(set) = entries.iter().position(|entry| entry.kind == ReferenceKind::KeySet) else {
@@ -65,11 +65,16 @@ impl RecordingTally {
         };
         let number = entries[set].key.expect("a key entry names a key");
         let touches = |part: &[Reference]| part.iter().any(|entry| blocks(entry).contains(&number));
+        let mnemonic = if call.request.first_halfword == 0xB213 { "RRB" } else { "SSK" };
         if touches(&entries[..set]) && call.keys[number as usize] & 0x04 == 0 {
-            self.found("key read with a bit that its own fetch recorded");
+            self.found(format!("{mnemonic}: key read with a bit that its own fetch recorded"));
         }
         if touches(&entries[set..]) {
-            self.found("key set, then stored in");
+            self.found(format!("{mnemonic}: key set, then stored in"));
+        }
+        let halfword = |entry: &&Reference| entry.kind == ReferenceKind::InstructionHalfword;
+        if entries.iter().filter(halfword).any(|entry| blocks(entry).contains(&number)) {
+            self.found("RRB: second halfword in the page's block");
         }
     }
 
@@ -119,8 +124,11 @@ fn the_stored_set_shows_when_bits_are_recorded() {
         ("bits kept after ending 1", 300),
         ("bits kept after ending 2", 10),
         ("bits kept after ending 3", 50),
-        ("key read with a bit that its own fetch recorded", 50),
-        ("key set, then stored in", 50),
+        ("SSK: key read with a bit that its own fetch recorded", 50),
+        ("SSK: key set, then stored in", 50),
+        ("RRB: key read with a bit that its own fetch recorded", 50),
+        ("RRB: key set, then stored in", 50),
+        ("RRB: second halfword in the page's block", 50),
         ("store test without a record", 10),
     ] {
         assert!(tally.times(name) > least, "{name}: {}", tally.times(name));

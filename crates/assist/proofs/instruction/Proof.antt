@@ -106,18 +106,60 @@ returns-3 c =
     ∙ ap (λ x. finish (a .call .guest) (seen (storeThen x (a .call)) (entry (here .start))))
     (change .mask-change .ensures ∙ ap (λ o. changeBy (eqb o 0xac)) (code two .operation .ensures)))
 
+abbrev not-mask : tie.Else3 → Reached entry stage
+unfolding instruction not-ssm not-stctl
+not-mask c =
+    let here = not-stctl (c .before .before) in
+    reached (here .start)
+    (no-change (here .start .args .call) _ _ _ (here .runs) (one-of-two (c .before) ∙ c .if3 .left))
+
 -- SSK
 returns-4 : tie.Need-returns-4
-unfolding instruction not-ssm not-stctl
+unfolding instruction not-ssm not-stctl not-mask
 returns-4 c =
     let call = c .before .before .before .before in
     let test = call .before .before .before in
-    let here = not-stctl (test .before .before) in
-    let a = here .start .args in
-    continues (a .call .guest) (call .set-storage-key .result) (call .set-storage-key .last .0)
+    let here = not-mask (test .before) in
+    continues (here .start .args .call .guest) (call .set-storage-key .result) (call .set-storage-key .last .0)
     (call .set-storage-key .last .1 .0)
-    (no-change (a .call) _ _ _ (here .runs) (one-of-two (test .before) ∙ test .if3 .left))
+    (chosen _ _ _ (here .runs)
+    (eq-eqb _ _ (sym (code (test .before .before) .operation .ensures) ∙ test .if4 .taken)))
     (call .set-storage-key .ensures)
+
+abbrev not-ssk : tie.Else4 → Reached entry stage
+unfolding instruction not-ssm not-stctl not-mask
+not-ssk c =
+    let here = not-mask (c .before) in
+    reached (here .start)
+    (rejected _ _ _ (here .runs)
+    (ne-eqb _ _ (λ e. c .if4 .left (code (c .before .before) .operation .ensures ∙ e))))
+
+-- ISK, which stores nothing
+returns-5 : tie.Need-returns-5
+unfolding instruction not-ssm not-stctl not-mask not-ssk
+returns-5 c =
+    let call = c .before .before in
+    let test = call .before .before .before in
+    let here = not-ssk (test .before) in
+    let a = here .start .args in
+    continues (a .call .guest) (call .insert-storage-key .result) (a .storage .now)
+    (call .insert-storage-key .last .1 .0)
+    (chosen _ _ _ (here .runs)
+    (eq-eqb _ _ (sym (code (test .before .before .before) .operation .ensures) ∙ test .if5 .taken)))
+    (call .insert-storage-key .ensures)
+
+-- RRB
+returns-6 : tie.Need-returns-6
+unfolding instruction not-ssm not-stctl not-mask not-ssk
+returns-6 c =
+    let call = c .before .before .before .before in
+    let test = call .before .before .before in
+    let here = not-ssk (test .before) in
+    continues (here .start .args .call .guest) (call .reset-reference-bit .result) (call .reset-reference-bit .last .0)
+    (call .reset-reference-bit .last .1 .0)
+    (rejected _ _ _ (here .runs)
+    (ne-eqb _ _ (λ e. test .if5 .left (code (test .before .before .before) .operation .ensures ∙ e))))
+    (call .reset-reference-bit .ensures)
 
 pub instruction-spec : {M : Type 1} → statement M
 instruction-spec =
@@ -141,4 +183,12 @@ instruction-spec =
     (λ c κs. search needs)
     (λ c. search needs)
     (λ c. search needs)
-    returns-4)
+    returns-4
+    (λ c κs. search needs)
+    (λ c. search needs)
+    (λ c. search needs)
+    returns-5
+    (λ c κs. search needs)
+    (λ c. search needs)
+    (λ c. search needs)
+    returns-6)

@@ -15,6 +15,8 @@ use Rattle.rules.specs.SetSystemMask.{setSystemMask}
 use Rattle.rules.specs.StoreControl.{storeControl}
 use Rattle.rules.specs.StoreThenMask.{And, Or, storeThen}
 use Rattle.rules.specs.SetStorageKey.{setStorageKey}
+use Rattle.rules.specs.InsertStorageKey.{insertStorageKey}
+use Rattle.rules.specs.ResetReferenceBit.{resetReferenceBit}
 use Rattle.rules.specs.Attempt.{isAssisted, admitted, instruction, program, reading}
 use Rattle.rules.proofs.Within.{Came, run-came, within-more}
 use Rattle.rules.proofs.Fits.{Stops, stops, Completes, completes-more, Fits}
@@ -22,8 +24,10 @@ use Rattle.rules.proofs.Fits.SetSystemMask.{setSystemMask-fits}
 use Rattle.rules.proofs.Fits.StoreControl.{storeControl-fits}
 use Rattle.rules.proofs.Fits.StoreThenMask.{storeThen-fits, maskTable}
 use Rattle.rules.proofs.Fits.SetStorageKey.{setStorageKey-fits}
+use Rattle.rules.proofs.Fits.InsertStorageKey.{insertStorageKey-fits}
+use Rattle.rules.proofs.Fits.ResetReferenceBit.{resetReferenceBit-fits}
 
--- ---- the five
+-- ---- the seven
 
 pub either-true : (a b : Bool) → (a || b) ≡ true → (a ≡ true) ⊎ (b ≡ true)
 either-true true b h = inl refl
@@ -33,25 +37,29 @@ neither : (a b : Bool) → (a || b) ≡ false → (a ≡ false) × (b ≡ false)
 neither true b h = absurd (true≢false h)
 neither false b h = (refl, h)
 
--- what has P at each of the five has it at an assisted operation code
-each : (P : ℕ → Type 0) → P 0x80 → P 0xb6 → P 0xac → P 0xad → P 0x08 → (op : ℕ) → isAssisted op ≡ true → P op
-each P a b c d e op h =
+-- what has P at each of the seven has it at an assisted operation code
+each : (P : ℕ → Type 0) → P 0x80 → P 0xb6 → P 0xac → P 0xad → P 0x08 → P 0x09 → P 0xb213 → (op : ℕ)
+    → isAssisted op ≡ true → P op
+each P a b c d e f g op h =
     let at : (code : ℕ) → P code → eqb op code ≡ true → P op = λ code p t. subst P (sym (eqb-true op code t)) p in
-    ⊎-elim (λ h. ⊎-elim (λ h. ⊎-elim (λ h. ⊎-elim (at 0x80 a) (at 0xb6 b) (either-true _ _ h)) (at 0xac c)
-    (either-true _ _ h)) (at 0xad d) (either-true _ _ h)) (at 0x08 e) (either-true _ _ h)
+    let or : (b : Bool) (code : ℕ) → P code → (b ≡ true → P op) → (b || eqb op code) ≡ true → P op =
+    λ b code p first t. ⊎-elim first (at code p) (either-true b _ t) in
+    or _ 0xb213 g (or _ 0x09 f (or _ 0x08 e (or _ 0xad d (or _ 0xac c (or _ 0xb6 b (at 0x80 a)))))) h
 
-none-of-five : (op : ℕ) → isAssisted op ≡ false → Stops op NotAssisted
-none-of-five op h =
-    let e = neither _ (eqb op 0x08) h in
+none-of-seven : (op : ℕ) → isAssisted op ≡ false → Stops op NotAssisted
+none-of-seven op h =
+    let g = neither _ (eqb op 0xb213) h in
+    let f = neither _ (eqb op 0x09) (g .0) in
+    let e = neither _ (eqb op 0x08) (f .0) in
     let d = neither _ (eqb op 0xad) (e .0) in
     let c = neither _ (eqb op 0xac) (d .0) in
     let b = neither (eqb op 0x80) (eqb op 0xb6) (c .0) in
-    stops (rw (b .0, b .1, c .1, d .1, e .1) refl) refl refl
+    stops (rw (b .0, b .1, c .1, d .1, e .1, f .1, g .1) refl) refl refl
 
 wrong-mode : (op : ℕ) → isAssisted op ≡ true → Stops op WrongMode
 wrong-mode =
     each (λ op. Stops op WrongMode) (stops refl refl refl) (stops refl refl refl) (stops refl refl refl)
-    (stops refl refl refl) (stops refl refl refl)
+    (stops refl refl refl) (stops refl refl refl) (stops refl refl refl) (stops refl refl refl)
 
 -- ---- the instruction at an operation code that is decided
 
@@ -72,7 +80,15 @@ module _ (c : Call) (h : isAssisted (operation c) ≡ true) where
         at 0xac (storeThen And c) 11 (omega arith) (storeThen-fits 0xac (maskTable refl refl) And c),
         λ e3. (
           at 0xad (storeThen Or c) 11 (omega arith) (storeThen-fits 0xad (maskTable refl refl) Or c),
-          λ e4. at 0x08 (setStorageKey c) 8 (omega arith) (setStorageKey-fits c) (simp (e1, e2, e3, e4) at h),
+          λ e4. (
+            at 0x08 (setStorageKey c) 8 (omega arith) (setStorageKey-fits c),
+            λ e5. (
+              at 0x09 (insertStorageKey c) 8 (omega arith) (insertStorageKey-fits c),
+              λ e6.
+                  at 0xb213 (resetReferenceBit c) 12 (omega arith) (resetReferenceBit-fits c)
+                  (simp (e1, e2, e3, e4, e5, e6) at h),
+            ),
+          ),
         ),
       ),
     ),
@@ -88,7 +104,7 @@ attempt-fits bytes keys c = (
     λ t. (
       λ t. stops refl refl refl,
       λ t. (
-        λ t. none-of-five (operation c) (not-true _ t),
+        λ t. none-of-seven (operation c) (not-true _ t),
         λ t. (
           λ w. wrong-mode (operation c) (not-false _ t),
           λ w. instruction-fits c (not-false _ t),

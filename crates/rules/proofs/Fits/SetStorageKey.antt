@@ -1,65 +1,31 @@
 -- SET STORAGE KEY: how it can end, and at most 8 references.
-use Prim.Native.Nat.{ℕ}
 use native.Mathlib.Omega.{arith}
 use mathlib.Core.Path.{refl}
-use Rattle.rules.specs.Bits.{word}
-use Rattle.rules.specs.Steps.{_>>=_, fetchBytes, stopIf}
-use Rattle.rules.specs.Translation.{Format, segmentEntry}
 use Rattle.rules.specs.Call.{Call}
-use Rattle.rules.specs.SetStorageKey.{
-  segmentEnding,
-  setKeyIn,
-  segmentTable,
-  setStorageKey,
-  formatIn,
-  addressWord,
+use Rattle.rules.specs.SwapTables.{FoundPage, steps, assistsKeys, segmentTable, findPage}
+use Rattle.rules.specs.SetStorageKey.{storeSwapWord, setBlockKey, setStorageKey}
+use Rattle.rules.proofs.Computing.{fetching}
+use Rattle.rules.proofs.Fits.{completes, stops, Fits, fits-then}
+use Rattle.rules.proofs.Fits.SwapTables.{WayListed, segmentTable-within, findPage-within}
+
+way : WayListed 0x08 steps
+way = record {
+  refused = stops refl refl refl;
+  table = stops refl refl refl;
+  segment = stops refl refl refl;
+  swaps = stops refl refl refl;
+  swap = stops refl refl refl;
+  page = stops refl refl refl;
 }
-use Rattle.rules.specs.Theorems.Answers.{table}
-use Rattle.rules.proofs.Computing.{walking, keying}
-use Rattle.rules.proofs.Within.{Within, Any}
-use Rattle.rules.proofs.Fits.{completes, Stops, stops, Fits, fits-then}
 
-setKeyIn-fits : (c : Call) (f : Format) (segment a : ℕ) → Fits 0x08 c (setKeyIn c f segment a) 6
-unfolding keying
-setKeyIn-fits c f segment a = (
-  stops refl refl refl,
-  λ swapTable. (
-    stops refl refl refl,
-    λ swapWord. (
-      stops refl refl refl,
-      λ page. (
-        λ t. stops refl refl refl,
-        λ t. (
-          λ t. completes refl refl (omega arith),
-          λ t. (stops refl refl refl, λ old. completes refl refl (omega arith)),
-        ),
-      ),
-    ),
-  ),
-)
-
-segmentEntry-within : (f : Format) (table a : ℕ) → Within (Stops 0x08) Any (segmentEntry segmentEnding f table a) 1
-unfolding walking
-segmentEntry-within f table a = (
-  λ t. stops refl refl refl,
-  λ t. (
-    stops refl refl refl,
-    λ entry. (λ t. stops refl refl refl, λ t. (λ t. stops refl refl refl, λ t. (λ t. stops refl refl refl, λ t. tt))),
-  ),
-)
+setBlockKey-fits : (c : Call) (p : FoundPage) → Fits 0x08 c (setBlockKey c p) 3
+unfolding fetching storeSwapWord setBlockKey
+setBlockKey-fits c p = (stops refl refl refl, λ old. completes refl refl (omega arith))
 
 pub setStorageKey-fits : (c : Call) → Fits 0x08 c (setStorageKey c) 8
-unfolding _>>=_ fetchBytes stopIf segmentTable setStorageKey
-setStorageKey-fits c = (
-  λ t. stops refl refl refl,
-  λ t. (
-    stops refl refl refl,
-    λ rseg. (
-      λ t. stops refl refl refl,
-      λ t.
-          let a = word 8 31 (addressWord c) in
-          fits-then 0x08 c (segmentEntry segmentEnding (formatIn rseg) rseg a) _ 1 6 7 (omega arith)
-          (segmentEntry-within _ _ _) (λ segment. setKeyIn-fits c _ segment _),
-    ),
-  ),
-)
+unfolding fetching storeSwapWord setStorageKey
+setStorageKey-fits c =
+    fits-then 0x08 c (segmentTable (assistsKeys c) steps (c .guest)) _ 1 7 8 (omega arith)
+    (segmentTable-within 0x08 steps way _ (c .guest))
+    (λ rseg. fits-then 0x08 c (findPage steps rseg _) _ 4 3 7 (omega arith) (findPage-within 0x08 steps way rseg _)
+    (λ p. (λ t. completes refl refl (omega arith), λ t. setBlockKey-fits c p)))

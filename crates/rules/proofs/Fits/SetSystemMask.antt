@@ -6,7 +6,7 @@ use Rattle.rules.specs.Machine.{_⊕_}
 use Rattle.rules.specs.Guest.{Guest, effective, instructionAddress}
 use Rattle.rules.specs.Steps.{_>>=_, fetchBytes, stopIf}
 use Rattle.rules.specs.Access.{secondHalfword}
-use Rattle.rules.specs.Call.{Call, complete}
+use Rattle.rules.specs.Call.{Call, completeAs}
 use Rattle.rules.specs.SetSystemMask.{maskOperand, maskTarget, setSystemMask}
 use Rattle.rules.proofs.Computing.{masking}
 use Rattle.rules.proofs.Within.{Within, Any, within-then}
@@ -58,7 +58,7 @@ maskTarget-within c new = (
 )
 
 pub setSystemMask-fits : (c : Call) → Fits 0x80 c (setSystemMask c) 13
-unfolding setSystemMask complete
+unfolding setSystemMask completeAs
 setSystemMask-fits c =
     fits-then 0x80 c (maskOperand (c .guest)) _ 10 3 13 (omega arith) (maskOperand-within (c .guest))
     (λ new. fits-then 0x80 c (maskTarget c new) _ 2 1 3 (omega arith) (maskTarget-within c new)

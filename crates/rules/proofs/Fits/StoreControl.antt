@@ -10,7 +10,7 @@ use Rattle.rules.specs.Guest.{Guest, instructionAddress}
 use Rattle.rules.specs.Steps.{Steps, _>>=_, fetchBytes, stopIf}
 use Rattle.rules.specs.Access.{secondHalfword}
 use Rattle.rules.specs.ControlFields.{addressIn}
-use Rattle.rules.specs.Call.{Call, r1, r3, complete}
+use Rattle.rules.specs.Call.{Call, r1, r3, complete, completeAs}
 use Rattle.rules.specs.StoreControl.{
   registerCount,
   gather,
@@ -79,7 +79,7 @@ storeRegisters-fits : (c : Call) (ecblok a : ℕ) → a < 2 ^ 24
     Fits 0xb6 c
     (virtualRegisters ecblok (r1 c) n
     >>= λ values. operandWords (c .guest) a n >>= λ reals. complete c 4 (wordStores reals values)) 80
-unfolding complete
+unfolding completeAs
 storeRegisters-fits c ecblok a l =
     let n = registerCount (r1 c) (r3 c) in
     let E = Stops 0xb6 in

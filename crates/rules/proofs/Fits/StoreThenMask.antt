@@ -8,9 +8,9 @@ use Rattle.rules.specs.Guest.{Guest, advance, effective, instructionAddr
 use Rattle.rules.specs.Endings.{Completed, Expanded, FieldMissing, refuse}
 use Rattle.rules.specs.Steps.{_>>=_, fetchBytes, stopIf, endingAs}
 use Rattle.rules.specs.Access.{secondHalfword}
-use Rattle.rules.specs.Call.{Call, complete}
+use Rattle.rules.specs.Call.{Call, completeAs}
 use Rattle.rules.specs.StoreThenMask.{MaskChange, byteOperand, storeThen}
-use Rattle.rules.specs.Theorems.Answers.{table, listed, Possible, instructionLength}
+use Rattle.rules.specs.Theorems.Answers.{table, listed, Possible, instructionLength, withoutResult}
 use Rattle.rules.proofs.Within.{Within, Any, within-then, within-endingAs}
 use Rattle.rules.proofs.Fits.{
   Stops,
@@ -45,7 +45,7 @@ byteOperand-within op t g =
     (λ second u. storeTest-within (Stops op) g (effective g second) (exceptions op _ (omega arith) (t .accesses)))
 
 pub storeThen-fits : (op : ℕ) → MaskTable op → (change : MaskChange) (c : Call) → Fits op c (storeThen change c) 11
-unfolding _>>=_ fetchBytes stopIf complete storeThen
+unfolding _>>=_ fetchBytes stopIf completeAs storeThen
 storeThen-fits op t change c =
     let g = c .guest in (
       λ x. t .refused,
@@ -59,7 +59,7 @@ storeThen-fits op t change c =
                 fits-then op c (byteOperand g) _ 7 2 9 (omega arith) (byteOperand-within op t g)
                 (λ real. record {
                   possible = t .completed;
-                  advanced = ap (advance g) (sym (t .length));
+                  advanced = ap (λ n. withoutResult op c (advance g n)) (sym (t .length));
                   written = omega arith;
                 }),
           ),

@@ -1,6 +1,7 @@
--- The marked edges, by computation over the definitions.
+-- The tables of edges, by computation over the definitions.
 use mathlib.Core.Path.{refl}
 use Rattle.rules.specs.Theorems.Edges.{EdgesHold, RecordingEdgesHold, LowAddressEdgesHold}
+use Rattle.rules.specs.Theorems.KeyEdges.{KeyEdgesHold}
 use Rattle.rules.proofs.Computing.{computing}
 
 pub edges-hold : EdgesHold
@@ -14,3 +15,7 @@ recording-edges-hold = refl
 pub low-address-edges-hold : LowAddressEdgesHold
 unfolding computing
 low-address-edges-hold = refl
+
+pub key-edges-hold : KeyEdgesHold
+unfolding computing
+key-edges-hold = refl

@@ -194,7 +194,7 @@ lowAddressEdges =
     ∷ protectedAfter segmentInvalid (translating (callOf (guestWith 0x10001c 0 0x80000008) 0xacfc false)) 6
     ∷ []
 
--- Every row gives what the papers say: the ending, the count, the next address, and every byte and key.
+-- Every row gives what the papers say: the ending, the count, the record, and every byte and key.
 abbrev pub EdgesHold : Type 0
 EdgesHold = Hold edges
 

@@ -1,5 +1,5 @@
 -- A small machine with a guest's control blocks and tables, on which the edges are computed.
-use Prim.Native.Nat.{ℕ, zero, suc, _+_, _*_, _^_}
+use Prim.Native.Nat.{ℕ, zero, suc, _+_, _-_, _*_, _^_}
 use mathlib.Core.Bool.{Bool, cond}
 use mathlib.Core.Path.{_≡_}
 use mathlib.Core.List.{List, [], _∷_, _++_, map}
@@ -95,18 +95,18 @@ ec old = old * 256 + 8
 abbrev pub bc : ℕ → ℕ
 bc old = old * 256
 
--- what is compared: the ending's numbers, the count, the next instruction's address, every byte and every key
+-- what is compared: the ending's numbers, the count, the record handed back, every byte and every key
 pub record Compared : Type 0 where
   pub ending : Numbers
   pub count : ℕ
-  pub next : ℕ
+  pub guest : Guest
   pub after : Machine
 
 abbrev pub compared : Result → Compared
 compared r = record {
   ending = numbers (r .answer .ending);
   count = r .answer .count;
-  next = instructionAddress (r .answer .guest);
+  guest = r .answer .guest;
   after = r .after;
 }
 
@@ -120,20 +120,34 @@ pub record Row : Type 0 where
 abbrev pub Hold : List Row → Type 0
 Hold rows = map (λ r. compared (attempt (r .machine) (r .call))) rows ≡ map (λ r. r .gives) rows
 
--- a row that completes: what is put in storage, and all keys afterwards
-abbrev pub completes : Machine → Call → (count next : ℕ) → (stores : List Write) (keys : List ℕ) → Row
-completes m c count next stores keys = record {
+-- a record with another instruction address
+abbrev pub movedTo : Guest → (next : ℕ) → Guest
+movedTo g next = record {
+  psw = g .psw - instructionAddress g + next;
+  general = g .general;
+  cr0 = g .cr0;
+  cr1 = g .cr1;
+  cr6 = g .cr6;
+}
+
+-- a row that completes: the record, what is put in storage, and all keys afterwards
+abbrev pub completesWith : Machine → Call → (count : ℕ) → Guest → (stores : List Write) (keys : List ℕ) → Row
+completesWith m c count guest stores keys = record {
   machine = m;
   call = c;
   gives = record {
     ending = record { number = 0; code = 0; address = 0 };
     count = count;
-    next = next;
+    guest = guest;
     after = record { storage = holding m stores .storage; keys = keys };
   };
 }
 
--- a row that ends otherwise, and leaves storage as it was: all keys afterwards
+-- one in whose record the instruction address alone is another
+abbrev pub completes : Machine → Call → (count next : ℕ) → (stores : List Write) (keys : List ℕ) → Row
+completes m c count next = completesWith m c count (movedTo (c .guest) next)
+
+-- a row that ends otherwise, and leaves record and storage as they were: all keys afterwards
 abbrev pub endsWith : Machine → Call → (number code count : ℕ) → (keys : List ℕ) → Row
 endsWith m c number code count keys = record {
   machine = m;
@@ -141,7 +155,7 @@ endsWith m c number code count keys = record {
   gives = record {
     ending = record { number = number; code = code; address = 0 };
     count = count;
-    next = instructionAddress (c .guest);
+    guest = c .guest;
     after = record { storage = m .storage; keys = keys };
   };
 }

@@ -1,21 +1,20 @@
-use Prim.Native.Nat.{ℕ, _%_, _^_, _≤_}
+use Prim.Native.Nat.{ℕ, _≤_}
 use native.Mathlib.Omega.{arith}
 use mathlib.Core.Path.{_≡_, sym, ap, _∙_, subst}
 use mathlib.Core.List.{List}
-use lib.ListN.{length, set}
+use lib.ListN.{length}
 use Rattle.rules.specs.declared.call.Call.{Call}
 use Rattle.rules.specs.Machine.{Machine}
 use Rattle.rules.specs.Endings.{numbers}
 use Rattle.rules.specs.Call.{operation}
 use Rattle.rules.specs.Attempt.{Result}
-use Rattle.rules.specs.Theorems.Answers.{instructionLength, Untouched}
+use Rattle.rules.specs.Theorems.Answers.{Untouched}
 use Rattle.rules.specs.Theorems.ReferenceBits.{OnlyReferenced}
 use Rattle.rules.proofs.Theorems.Answers.{every-call-answered}
 use Rattle.assist.specs.Attempted.{attempted}
 use Rattle.vma.specs.Words.{guestOf, wordsOf}
 use Rattle.vma.specs.Packed.{packed, numbersIn, countIn}
 use Rattle.vma.specs.Called.{called}
-use Rattle.vma.proofs.Words.{handed-words}
 use Rattle.vma.proofs.Fields.{answer-fits}
 use Rattle.vma.proofs.Inverse.{packing-inverse}
 use borrow.Author.Needs.{needs}
@@ -30,7 +29,8 @@ returns : tie.Need-returns
 unfolding attempted
 returns c =
     let at-number = c .before .before .before in
-    let at-attempt = at-number .before .before .before .before .before .before .before in
+    let at-words = at-number .before in
+    let at-attempt = at-words .before .before .before .before .before in
     let at-guest-of = at-attempt .before in
     let start = at-guest-of .before .before .before .before .before .before in
     let a = start .args in
@@ -59,10 +59,7 @@ returns c =
     omega (arith, c .pack .ensures, number, code, count, address) in
     let apart = packing-inverse .answer n (length (r .references)) fits in
     let parts = ap numbersIn result ∙ apart .0 in
-    let next = at-attempt .attempt .result .guest in
-    let words = ap (λ x. set w 1 (x .guest .psw % 2 ^ 32)) answer
-    ∙ handed-words w (typed .0) (typed .1) (typed .2) (n .number) (instructionLength (operation call))
-    (r .answer .guest) (λ e. demand .untouched e .guest) (demand .advanced) in
+    let words = at-words .words-of .ensures ∙ ap (λ x. wordsOf (x .guest)) answer in
     let kept = packing-inverse .words w (typed .0) (typed .1) (typed .2) in
     let ended : (numbersIn (c .pack .result) .number ≡ 0 → ⊥) → Untouched m call r =
     λ e. demand .untouched (λ z. e (ap (λ x. x .number) parts ∙ z)) in (
@@ -88,8 +85,7 @@ vma-attempt-spec =
     (tie.spec
     (λ c κs. search needs)
     (λ c κs. search needs)
-    (λ c. search needs)
-    (λ c. search needs)
+    (λ c κs. search needs)
     (λ c κs. search needs)
     (λ c κs. search needs)
     (λ c κs. search needs)

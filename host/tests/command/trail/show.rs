@@ -109,8 +109,8 @@ fn all_endings() {
             "SSM 8000, no expanded assist, ending 12 instruction address is odd; 0 references",
         ),
         (
-            "B213 00 0D 0000 0000",
-            "operation B2 B213, no expanded assist, ending 13 operation code is none of the",
+            "B212 00 0D 0000 0000",
+            "operation B212 B212, no expanded assist, ending 13 operation code is none of the",
         ),
         (
             "8000 00 FF 0000 FFFF",

@@ -1,13 +1,15 @@
+use Prim.Native.Nat.{_*_}
 use mathlib.Core.Path.{ap, _∙_}
-use Rattle.rules.specs.Bits.{bits, bit}
+use Rattle.rules.specs.Bits.{bits, word}
 use Rattle.rules.specs.Machine.{Machine}
 use Rattle.rules.specs.Writes.{perform, store}
 use Rattle.rules.specs.Steps.{Steps}
 use Rattle.rules.specs.Call.{Completion}
-use Rattle.rules.specs.SetStorageKey.{keyWord, addressWord, swapWith, storeSwapWord, setBlockKey}
+use Rattle.rules.specs.SwapTables.{swapWith}
+use Rattle.rules.specs.SetStorageKey.{keyWord, storeSwapWord, setBlockKey}
 use Rattle.storage.specs.Answers.{machine}
 use Rattle.storage.proofs.Laws.{begin, fresh, completes}
-use Rattle.storage.proofs.Stages.{Reached, Asked, asks, given, ended-with}
+use Rattle.storage.proofs.Stages.{Asked, asks, given, ended-with}
 use borrow.Author.Needs.{needs}
 use Rattle.storage_key.proofs.ssk.set_block_key.Statement.{statement}
 use Rattle.storage_key.proofs.ssk.set_block_key.Tie as tie
@@ -16,7 +18,7 @@ abbrev entry : tie.Start → Machine
 entry c = machine (c .args .storage .now) (c .args .keys .now)
 
 abbrev stage : tie.Start → Steps Completion
-stage c = setBlockKey (c .args .call) (c .args .block) (c .args .place) (c .args .word)
+stage c = setBlockKey (c .args .call) (c .args .page)
 
 -- step 11: the key
 abbrev consulted : tie.After-consult-key → Asked entry stage
@@ -43,13 +45,12 @@ returns-2 c =
     let old = set .before .before .before .before .before in
     let here = given (consulted (old .before .before .before .before)) (old .consulted .given .1) in
     let a = here .start .args in
-    let swap = swapWith (bit 32 20 (addressWord (a .call))) (a .word) (keyWord (a .call))
-    (bits 8 5 6 (old .consulted .given .0 .0)) in
+    let swap = swapWith (a .page) (word 24 30 (keyWord (a .call)) * 2) (bits 8 5 6 (old .consulted .given .0 .0)) in
     let first = simp (set .before .new-key .ensures, set .before .before .key-word .ensures) at
     (set .set-key .ensures (a .storage .now)) in
     let second = simp (put .before .swap-word .ensures) at (put .store-word .ensures) in
     completes (a .call) (c .completed .result) (put .store-word .last .0) (put .store-word .last .1 .0) 2 _
-    (here .runs) (c .completed .ensures) (second ∙ ap (λ m. perform m (store (a .place) 4 swap)) first)
+    (here .runs) (c .completed .ensures) (second ∙ ap (λ m. perform m (store (a .page .place) 4 swap)) first)
 
 pub set-block-key-spec : {M : Type 1} → statement M
 set-block-key-spec =

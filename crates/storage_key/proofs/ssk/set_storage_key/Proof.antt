@@ -1,11 +1,12 @@
-use mathlib.Core.Path.{ap, _∙_}
+use mathlib.Core.Path.{_∙_}
 use Rattle.rules.specs.Machine.{Machine}
 use Rattle.rules.specs.Steps.{Steps}
 use Rattle.rules.specs.Call.{Completion}
-use Rattle.rules.specs.SetStorageKey.{segmentEnding, setStorageKey}
-use Rattle.storage.specs.Answers.{machine, told}
-use Rattle.storage.proofs.Laws.{begin, fresh, finishes}
-use Rattle.storage.proofs.Stages.{Reached, Asked, asks, asks-after, given, reached-keys, ended-with}
+use Rattle.rules.specs.SetStorageKey.{storeSwapWord, setStorageKey}
+use Rattle.storage.specs.Answers.{machine}
+use Rattle.storage.proofs.Laws.{begin, fresh, chosen, rejected, completes, finishes}
+use Rattle.storage.proofs.Stages.{Reached, Asked, asks, given, reached-keys, ended-with}
+use Rattle.storage_key.proofs.Way.{Sought, seeks-after, found, ended-on-way}
 use borrow.Author.Needs.{needs}
 use Rattle.storage_key.proofs.ssk.set_storage_key.Statement.{statement}
 use Rattle.storage_key.proofs.ssk.set_storage_key.Tie as tie
@@ -20,9 +21,11 @@ stage c = setStorageKey (c .args .call)
 abbrev table : tie.After-segment-table → Asked entry stage
 unfolding setStorageKey
 table c =
-    let start = c .before .before .before .before .before .before .before in
+    let start = c .before .before .before .before .before .before .before .before .before in
     asks start _ _ (begin (entry start) (stage start)) (c .segment-table .result) (start .args .storage .now)
-    (c .segment-table .last .1 .0) (fresh _ _ (c .segment-table .ensures))
+    (c .segment-table .last .1 .0)
+    (fresh _ _
+    (simp (c .before .steps .ensures, c .before .before .assists-keys .ensures) at (c .segment-table .ensures)))
 
 returns : tie.Need-returns
 unfolding setStorageKey table
@@ -31,60 +34,73 @@ returns c =
     ended-with (asked .start .args .call .guest) (c .ending .result) asked (c .ending .ensures)
     (c .before .enum-told .given .1)
 
--- where the address and the format were taken
-abbrev address : tie.After-format-in → tie.After-address-word
-address c = c .before .before .before .before .before .before .before .before .before
+-- where the address was taken
+abbrev address : tie.After-segment-table → tie.After-address-word
+address c = c .before .before .before .before .before
 
-abbrev format : tie.After-after → tie.After-format-in
-format c = c .before .before .before .before .before .before .before
-
--- steps 4 to 6
-abbrev segment : tie.After-after → Asked entry stage
+-- steps 4 to 10
+abbrev way : tie.After-after → Sought entry stage
 unfolding setStorageKey table
-segment c =
-    let walk = c .before .before .before .before in
-    let size = format c in
-    let found = size .before .before in
-    let here = given (table (found .before .before .before .before)) (found .table .given .1) in
-    let s = here .start .args .storage .now in
-    let ks = walk .segment-entry .last .1 .0 in
-    asks-after (here .start) _ _ (here .runs) (c .before .refused .result) (c .after .result) s ks (c .after .ensures)
-    (ap (λ r. told r s ks) (c .before .refused .ensures)
-    ∙ simp (size .format-in .ensures, address size .address-word .ensures) at
-    (walk .segment-entry .ensures segmentEnding))
+way c =
+    let call = c .before .before .before in
+    let at = call .before .before .before .before .before in
+    let here = given (table (at .before .before .before .before)) (at .table .given .1) in
+    seeks-after (here .start) _ _ (here .runs) (call .find-page .result) (c .after .result)
+    (here .start .args .storage .now) (call .find-page .last .1 .0) (c .after .ensures)
+    (simp (call .before .steps2 .ensures, address (at .before .before .before .before) .address-word .ensures) at
+    (call .find-page .ensures))
 
 returns-2 : tie.Need-returns-2
-unfolding setStorageKey table segment
+unfolding setStorageKey table way
 returns-2 c =
-    let asked = segment (c .before .before .before) in
-    ended-with (asked .start .args .call .guest) (c .ending2 .result) asked (c .ending2 .ensures)
+    let sought = way (c .before .before .before) in
+    ended-on-way (sought .start .args .call .guest) (c .ending2 .result) sought (c .ending2 .ensures)
     (c .before .enum-told2 .given .1)
 
--- steps 7 to 12
-abbrev found : tie.After-set-key-in → Reached entry stage
-unfolding setStorageKey table segment
-found c = let at = c .before .before .before .before in given (segment (at .before .before)) (at .entry .given .1)
+abbrev page : tie.After-known-told2 → Reached entry stage
+unfolding setStorageKey table way
+page c = let at = c .before in found (way (at .before .before)) (at .found .given .1)
 
+-- step 11, the page is invalid: step 12 alone
 same-length-6 : tie.Need-same-length-6
-unfolding setStorageKey table segment found
+unfolding setStorageKey table way page
 same-length-6 c =
-    let call = c .before .before .before .before .before in
-    call .set-key-in .kept .1 .0 ∙ reached-keys (found call)
+    let put = c .before .before .before .before .before in
+    put .store-word .kept .1 .0 ∙ reached-keys (page (put .before .before .before .before .before))
 
 returns-3 : tie.Need-returns-3
-unfolding setStorageKey table segment found
+unfolding setStorageKey storeSwapWord table way page
 returns-3 c =
+    let put = c .before .before .before .before .before in
+    let test = put .before .before .before .before in
+    let here = page (test .before) in
+    completes (here .start .args .call) (c .completed .result) (put .store-word .last .0) (put .store-word .last .1 .0)
+    2 _ (chosen _ _ _ (here .runs) (test .if1 .taken)) (c .completed .ensures)
+    (simp (put .before .swap-word .ensures) at (put .store-word .ensures))
+
+-- it is valid: steps 11 and 12
+same-length-8 : tie.Need-same-length-8
+unfolding setStorageKey table way page
+same-length-8 c =
     let call = c .before .before .before .before .before in
-    let here = found call in
-    let size = format (call .before .before .before .before .before .before) in
-    finishes (here .start .args .call .guest) (call .set-key-in .result) (c .answer-after .result)
-    (call .set-key-in .last .0) (call .set-key-in .last .1 .0) (here .runs) (c .answer-after .ensures)
-    (simp (size .format-in .ensures, address size .address-word .ensures) at (call .set-key-in .ensures))
+    call .set-block-key .kept .1 .0 ∙ reached-keys (page (call .before .before .before .before))
+
+returns-4 : tie.Need-returns-4
+unfolding setStorageKey table way page
+returns-4 c =
+    let call = c .before .before .before .before .before in
+    let test = call .before .before .before in
+    let here = page (test .before) in
+    finishes (here .start .args .call .guest) (call .set-block-key .result) (c .answer-after .result)
+    (call .set-block-key .last .0) (call .set-block-key .last .1 .0)
+    (rejected _ _ _ (here .runs) (test .if1 .left)) (c .answer-after .ensures) (call .set-block-key .ensures)
 
 pub set-storage-key-spec : {M : Type 1} → statement M
 set-storage-key-spec =
     tie.close
     (tie.spec
+    (λ c κs. search needs)
+    (λ c κs. search needs)
     (λ c κs. search needs)
     (λ c κs. search needs)
     (λ c. search needs)
@@ -96,7 +112,6 @@ set-storage-key-spec =
     (λ c κs. search needs)
     (λ c κs. search needs)
     (λ c κs. search needs)
-    (λ c κs. search needs)
     (λ c. search needs)
     (λ c. search needs)
     (λ c κs. search needs)
@@ -105,6 +120,12 @@ set-storage-key-spec =
     returns-2
     (λ c κs. search needs)
     (λ c κs. search needs)
+    (λ c κs. search needs)
     (λ c. search needs)
     same-length-6
-    returns-3)
+    returns-3
+    (λ c κs. search needs)
+    (λ c κs. search needs)
+    (λ c. search needs)
+    same-length-8
+    returns-4)

@@ -2,7 +2,7 @@ use Prim.Native.Nat.{ℕ}
 use mathlib.Core.Bool.{not, _&&_}
 use Rattle.rules.specs.Machine.{Machine}
 use Rattle.rules.specs.Steps.{Steps}
-use Rattle.rules.specs.SetStorageKey.{pageOf}
+use Rattle.rules.specs.SwapTables.{pageOf}
 use Rattle.storage.specs.Answers.{machine}
 use Rattle.storage.proofs.Laws.{begin, fresh, settles}
 use Rattle.storage.proofs.Stages.{Asked, Tested, asks, given, tests, passed, stopped, handed}
@@ -14,7 +14,7 @@ abbrev entry : tie.Start → Machine
 entry c = machine (c .args .storage .now) (c .args .keys .now)
 
 abbrev stage : tie.Start → Steps ℕ
-stage c = pageOf (c .args .format) (c .args .segment) (c .args .at)
+stage c = pageOf (c .args .numbers) (c .args .format) (c .args .segment) (c .args .at)
 
 -- step 9
 abbrev fetched : tie.After-page-entry → Asked entry stage

@@ -5,6 +5,9 @@ use Rattle.storage_key.proofs.tables.segment_ending.Tie as tie
 returns : tie.Need-returns
 returns c = simp (c .enum-told .given .1)
 
+returns-2 : tie.Need-returns-2
+returns-2 c = simp (c .enum-told2 .given .1)
+
 returns-3 : tie.Need-returns-3
 returns-3 c = simp (c .enum-told3 .given .1)
 
@@ -24,7 +27,7 @@ segment-ending-spec =
     (λ c. search needs)
     (λ c. search needs)
     returns
-    (λ c. search needs)
+    returns-2
     returns-3
     returns-4
     returns-5)

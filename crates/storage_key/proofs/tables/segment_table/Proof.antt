@@ -2,7 +2,7 @@ use Prim.Native.Nat.{ℕ}
 use borrow.Author.Tests.{eq-eqb, ne-eqb}
 use Rattle.rules.specs.Machine.{Machine}
 use Rattle.rules.specs.Steps.{Steps}
-use Rattle.rules.specs.SetStorageKey.{segmentTable}
+use Rattle.rules.specs.SwapTables.{segmentTable}
 use Rattle.storage.specs.Answers.{machine}
 use Rattle.storage.proofs.Laws.{begin, fresh, pass, stops, settles}
 use Rattle.storage.proofs.Stages.{Reached, Asked, asks, given, handed}
@@ -14,27 +14,23 @@ abbrev entry : tie.Start → Machine
 entry c = machine (c .args .storage .now) (c .args .keys .now)
 
 abbrev stage : tie.Start → Steps ℕ
-stage c = segmentTable (c .args .call)
-
-abbrev start : tie.After-address-word → tie.Start
-start c = c .before .before .before .before .before
+stage c = segmentTable (c .args .assists) (c .args .numbers) (c .args .guest)
 
 -- step 1
 returns : tie.Need-returns
 unfolding segmentTable
 returns c =
-    let at = c .before in
-    stops _ _ _ (begin (entry (start at)) (stage (start at))) (simp (at .address-word .ensures) at (c .if1 .taken))
+    let start = c .before .before .before in
+    stops _ _ _ (begin (entry start) (stage start)) (c .if1 .taken)
 
 -- step 2: MICRSEG
 abbrev field : tie.After-micblok-word → Asked entry stage
 unfolding segmentTable
 field c =
     let on = c .before .before in
-    let at = on .before in
-    asks (start at) _ _
-    (pass _ _ _ (begin (entry (start at)) (stage (start at))) (simp (at .address-word .ensures) at (on .if1 .left)))
-    (c .micblok-word .result) (start at .args .storage .now) (c .micblok-word .last .1 .0)
+    let start = on .before .before .before in
+    asks start _ _ (pass _ _ _ (begin (entry start) (stage start)) (on .if1 .left))
+    (c .micblok-word .result) (start .args .storage .now) (c .micblok-word .last .1 .0)
     (fresh _ _ (c .micblok-word .ensures))
 
 returns-2 : tie.Need-returns-2
@@ -58,7 +54,6 @@ pub segment-table-spec : {M : Type 1} → statement M
 segment-table-spec =
     tie.close
     (tie.spec
-    (λ c κs. search needs)
     returns
     (λ c κs. search needs)
     (λ c. search needs)

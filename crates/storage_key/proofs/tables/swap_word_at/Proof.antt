@@ -1,7 +1,7 @@
 use Prim.Native.Nat.{ℕ}
 use Rattle.rules.specs.Machine.{Machine}
 use Rattle.rules.specs.Steps.{Steps}
-use Rattle.rules.specs.SetStorageKey.{swapWordAt}
+use Rattle.rules.specs.SwapTables.{swapWordAt}
 use Rattle.storage.specs.Answers.{machine}
 use Rattle.storage.proofs.Laws.{begin, fresh, settles}
 use Rattle.storage.proofs.Stages.{Asked, asks, given, handed}
@@ -13,7 +13,7 @@ abbrev entry : tie.Start → Machine
 entry c = machine (c .args .storage .now) (c .args .keys .now)
 
 abbrev stage : tie.Start → Steps ℕ
-stage c = swapWordAt (c .args .format) (c .args .segment) (c .args .at)
+stage c = swapWordAt (c .args .numbers) (c .args .format) (c .args .segment) (c .args .at)
 
 abbrev field : tie.After-control-word → Asked entry stage
 unfolding swapWordAt

@@ -1,7 +1,15 @@
 //! Complete set-ups with fixed places, for the edges and the tests. Each completes unless it is altered.
 
+mod dat;
+mod key_instructions;
+
 use crate::call::{Call, Request, StorageImage};
 use crate::guest::Guest;
+
+pub use dat::{PAGE_TABLES, PSW_DAT, SEGMENT_TABLE};
+pub use key_instructions::{
+    PAGE_ENTRY, REAL_PAGE_TABLE, REAL_SEGMENT_TABLE, SEGMENT_ENTRY, SWAP_ADDRESS, SWAP_TABLE, SWAP_WORD,
+};
 
 pub const MICBLOK: u32 = 0x400;
 pub const ECBLOK: u32 = 0x500;
@@ -9,20 +17,8 @@ pub const VIRTUAL_PSW: u32 = 0x600;
 pub const INSTRUCTION: u32 = 0x1000;
 pub const OPERAND: u32 = 0x2000;
 
-/// Real segment table, page table and swap table of SSK; the page table has its swap address at C0C.
-pub const REAL_SEGMENT_TABLE: u32 = 0x800;
-pub const REAL_PAGE_TABLE: u32 = 0xC10;
-pub const SWAP_TABLE: u32 = 0xD00;
-
-/// Segment table and first page table for DAT; each is 400 bytes (hex) long.
-pub const SEGMENT_TABLE: u32 = 0x3000;
-pub const PAGE_TABLES: u32 = 0x3400;
-
 /// EC mode (bit 12) and problem state (bit 15).
 pub const PSW_EC_PROBLEM: u32 = 0x0009_0000;
-/// DAT (bit 5).
-pub const PSW_DAT: u32 = 0x0400_0000;
-
 /// Control register 0 bit 3.
 pub const LOW_ADDRESS_PROTECTION: u32 = 0x1000_0000;
 
@@ -105,28 +101,6 @@ impl Setup {
         setup
     }
 
-    /// SSK 3,4 of address 023000 (64K segments: segment 2, page 3) in frame 001000; R1 low byte 3F.
-    pub fn ssk() -> Setup {
-        let mut setup = Setup::new(0x0834, 0x4000);
-        setup.guest.general_registers[3] = 0xABCD_EF3F;
-        setup.guest.general_registers[4] = 0x5A02_3000;
-        setup.image.put_word(MICBLOK, REAL_SEGMENT_TABLE);
-        setup.image.put_word(REAL_SEGMENT_TABLE + 4 * 2, 0xF000_0000 | REAL_PAGE_TABLE);
-        setup.image.put_word(REAL_PAGE_TABLE - 4, SWAP_TABLE);
-        setup.image.put_halfword(REAL_PAGE_TABLE + 2 * 3, 0x0010);
-        setup
-    }
-
-    /// SSK 3,4 of address 523000 (1M segments: segment 5, page 23 hex) in frame 001000.
-    pub fn ssk_1m() -> Setup {
-        let mut setup = Setup::ssk();
-        setup.guest.general_registers[4] = 0x5A52_3000;
-        setup.image.put_word(MICBLOK, REAL_SEGMENT_TABLE | 1);
-        setup.image.put_word(REAL_SEGMENT_TABLE + 4 * 5, 0xF000_0000 | REAL_PAGE_TABLE);
-        setup.image.put_halfword(REAL_PAGE_TABLE + 2 * 0x23, 0x0010);
-        setup
-    }
-
     /// A virtual interruption is pending: bit 0 of MICVPSW.
     pub fn pending(mut self) -> Setup {
         let word = self.image.word(MICBLOK + 8);
@@ -180,6 +154,11 @@ impl Setup {
         self
     }
 
+    pub fn register(mut self, number: usize, value: u32) -> Setup {
+        self.guest.general_registers[number] = value;
+        self
+    }
+
     pub fn control_register_6(mut self, value: u32) -> Setup {
         self.guest.control_register_6 = value;
         self
@@ -192,61 +171,10 @@ impl Setup {
         self
     }
 
-    /// DAT on with control register 0 bits 8-12 as given; full length of the segment table.
-    pub fn dat(mut self, format_bits: u32) -> Setup {
-        self.guest.psw_0_31 |= PSW_DAT;
-        self.guest.control_register_0 = format_bits << 19;
-        self.guest.control_register_1 = 0xFF00_0000 | SEGMENT_TABLE;
-        self
-    }
-
     /// Low-address protection: bit 3 of control register 0, whose other bits stay; after `dat`.
     pub fn low_address_protection(mut self) -> Setup {
         self.guest.control_register_0 |= LOW_ADDRESS_PROTECTION;
         self
-    }
-
-    /// Segment and page entries so that this logical page is in the frame of the real address.
-    pub fn map(mut self, logical: u32, real: u32) -> Setup {
-        let (segment_entry, page_entry) = self.entry_addresses(logical);
-        let page_table = PAGE_TABLES + 0x400 * self.table_of(self.segment(logical));
-        self.image.put_word(segment_entry, 0xF000_0000 | page_table);
-        let frame = if self.pages_of_4k() { (real >> 12) << 4 } else { (real >> 11) << 3 };
-        self.image.put_halfword(page_entry, frame as u16);
-        self
-    }
-
-    /// Where `map` puts the segment entry and the page entry of a logical address.
-    pub fn entry_addresses(&mut self, logical: u32) -> (u32, u32) {
-        let segment = self.segment(logical);
-        let page_table = PAGE_TABLES + 0x400 * self.table_of(segment);
-        let in_segment = if self.segments_of_1m() { logical & 0xF_FFFF } else { logical & 0xFFFF };
-        let page = if self.pages_of_4k() { in_segment >> 12 } else { in_segment >> 11 };
-        (SEGMENT_TABLE + 4 * segment, page_table + 2 * page)
-    }
-
-    fn segment(&self, logical: u32) -> u32 {
-        if self.segments_of_1m() {
-            logical >> 20
-        } else {
-            logical >> 16
-        }
-    }
-
-    fn table_of(&mut self, segment: u32) -> u32 {
-        if let Some(position) = self.segments.iter().position(|&one| one == segment) {
-            return position as u32;
-        }
-        self.segments.push(segment);
-        self.segments.len() as u32 - 1
-    }
-
-    fn pages_of_4k(&self) -> bool {
-        self.guest.control_register_0 >> 19 & 0b10000 != 0
-    }
-
-    fn segments_of_1m(&self) -> bool {
-        self.guest.control_register_0 >> 19 & 0b00010 != 0
     }
 
     pub fn request(&self) -> Request {

@@ -1,6 +1,6 @@
 /*
- * A guest's storage with its control blocks and tables; then each of the five instructions, and four calls that end
- * otherwise. What happened is printed in words; five_instructions.expected has what must be, worked out by hand.
+ * A guest's storage with its control blocks and tables; then each of the seven instructions, and four calls that end
+ * otherwise. What happened is printed in words; instructions.expected has what must be, worked out by hand.
  */
 #include "vma.h"
 
@@ -49,8 +49,10 @@ static void set_up(void)
         0xACFC, 0x2030, /* 003008 STNSM 48(2),X'FC' */
         0xAD03, 0x2031, /* 00300C STOSM 49(2),X'03' */
         0x0834,         /* 003010 SSK   3,4 */
-        0xB655, 0x5000, /* 003012 STCTL 5,5,0(5) */
-        0x8000, 0x2040  /* 003016 SSM   64(2) */
+        0x0964,         /* 003012 ISK   6,4 */
+        0xB213, 0x4000, /* 003014 RRB   0(4) */
+        0xB655, 0x5000, /* 003018 STCTL 5,5,0(5) */
+        0x8000, 0x2040  /* 00301C SSM   64(2) */
     };
     put_word(MICBLOK, SEGMENT_TABLE);   /* MICRSEG: length 0, 64K segments */
     put_word(MICBLOK + 4, ECBLOK);      /* MICCREG */
@@ -80,8 +82,19 @@ static void print_answer(const char *name, uint32_t address, uint64_t answer)
     if (ending == VMA_INTERRUPTION && (code == VMA_SEGMENT_TRANSLATION || code == VMA_PAGE_TRANSLATION))
         printf(" at %06X", (unsigned)vma_address(answer));
     if (ending == VMA_FIELD_MISSING)
-        printf(", step %u", code);
+        printf(", step or place %u", code);
     printf("; %u references\n", vma_count(answer));
+}
+
+/* What ISK and RRB leave in the record. */
+static void print_results(const uint32_t guest[21], const uint32_t before[21])
+{
+    for (unsigned r = 0; r < 16; r++)
+        if (guest[VMA_GENERAL + r] != before[VMA_GENERAL + r])
+            printf("      register %u: %08X -> %08X\n", r, (unsigned)before[VMA_GENERAL + r],
+                   (unsigned)guest[VMA_GENERAL + r]);
+    if (vma_condition_code(guest) != vma_condition_code(before))
+        printf("      condition code: %u -> %u\n", vma_condition_code(before), vma_condition_code(guest));
 }
 
 static void print_changes(const uint8_t *storage_before, const uint8_t *keys_before)
@@ -99,14 +112,17 @@ static void print_changes(const uint8_t *storage_before, const uint8_t *keys_bef
 static void run(const char *name, uint32_t guest[21])
 {
     static uint8_t storage_before[STORAGE_BYTES], keys_before[KEY_COUNT];
+    uint32_t guest_before[VMA_GUEST_WORDS];
     uint32_t address = vma_instruction_address(guest);
     uint32_t real = CODE + (address & 0xfff);
     uint16_t first_halfword = (uint16_t)(storage[real] << 8 | storage[real + 1]);
     memcpy(storage_before, storage, sizeof storage);
     memcpy(keys_before, keys, sizeof keys);
+    memcpy(guest_before, guest, sizeof guest_before);
     uint64_t answer = vma_attempt(storage, sizeof storage, keys, sizeof keys, guest, first_halfword, true);
     print_answer(name, address, answer);
     print_changes(storage_before, keys_before);
+    print_results(guest, guest_before);
     printf("      next %06X\n", (unsigned)vma_instruction_address(guest));
 }
 
@@ -116,8 +132,9 @@ int main(void)
     uint32_t guest[VMA_GUEST_WORDS] = {0x04090000, 0x00003000};
     guest[VMA_GENERAL + 2] = 0x00002000; /* base of the operands */
     guest[VMA_GENERAL + 3] = 0x0000003F; /* SSK: the key */
-    guest[VMA_GENERAL + 4] = 0x00003000; /* SSK: the address */
+    guest[VMA_GENERAL + 4] = 0x00003000; /* SSK, ISK and RRB: the address */
     guest[VMA_GENERAL + 5] = 0x00005000; /* page 5 is invalid */
+    guest[VMA_GENERAL + 6] = 0xABCDEF00; /* ISK: the result */
     guest[VMA_CONTROL_0] = 0x00800000;
     guest[VMA_CONTROL_1] = SEGMENT_TABLE;
     guest[VMA_CONTROL_6] = 0x80000000 | MICBLOK;
@@ -127,8 +144,10 @@ int main(void)
     run("STNSM", guest);
     run("STOSM", guest);
     run("SSK", guest);
+    run("ISK", guest);
+    run("RRB", guest);
     run("STCTL", guest);             /* a page of the operand isn't there: the guest is interrupted */
-    guest[VMA_PSW_32_63] = 0x003016; /* as after the interruption; now SSM would turn the virtual mask's bit 5 off */
+    guest[VMA_PSW_32_63] = 0x00301C; /* as after the interruption; now SSM would turn the virtual mask's bit 5 off */
     run("SSM", guest);               /* the expanded assist is installed, but not switched on */
     guest[VMA_CONTROL_6] |= 0x02000000; /* bit 6 switches it on */
     run("SSM", guest);

@@ -1,0 +1,128 @@
+use mathlib.Core.Path.{_∙_}
+use Rattle.rules.specs.Machine.{Machine}
+use Rattle.rules.specs.Steps.{Steps}
+use Rattle.rules.specs.Call.{Completion}
+use Rattle.rules.specs.InsertStorageKey.{insertStorageKey}
+use Rattle.storage.specs.Answers.{machine}
+use Rattle.storage.proofs.Laws.{begin, fresh, chosen, rejected, finishes}
+use Rattle.storage.proofs.Stages.{Reached, Asked, asks, given, reached-keys, ended-with}
+use Rattle.storage_key.proofs.Way.{Sought, seeks-after, found, ended-on-way}
+use borrow.Author.Needs.{needs}
+use Rattle.storage_key.proofs.isk.insert_storage_key.Statement.{statement}
+use Rattle.storage_key.proofs.isk.insert_storage_key.Tie as tie
+
+abbrev entry : tie.Start → Machine
+entry c = machine (c .args .storage .now) (c .args .keys .now)
+
+abbrev stage : tie.Start → Steps Completion
+stage c = insertStorageKey (c .args .call)
+
+-- steps 1 to 3
+abbrev table : tie.After-segment-table → Asked entry stage
+unfolding insertStorageKey
+table c =
+    let start = c .before .before .before .before .before .before .before .before in
+    asks start _ _ (begin (entry start) (stage start)) (c .segment-table .result) (start .args .storage .now)
+    (c .segment-table .last .1 .0)
+    (fresh _ _
+    (simp (c .before .places .ensures, c .before .before .assists-keys .ensures) at (c .segment-table .ensures)))
+
+returns : tie.Need-returns
+unfolding insertStorageKey table
+returns c =
+    let asked = table (c .before .before .before .before .before) in
+    ended-with (asked .start .args .call .guest) (c .ending .result) asked (c .ending .ensures)
+    (c .before .enum-told .given .1)
+
+-- where the address was taken
+abbrev address : tie.After-segment-table → tie.After-address-word
+address c = c .before .before .before .before
+
+-- steps 4 to 10
+abbrev way : tie.After-after → Sought entry stage
+unfolding insertStorageKey table
+way c =
+    let call = c .before .before .before in
+    let at = call .before .before .before .before in
+    let here = given (table (at .before .before .before .before)) (at .table .given .1) in
+    seeks-after (here .start) _ _ (here .runs) (call .find-page .result) (c .after .result)
+    (here .start .args .storage .now) (call .find-page .last .1 .0) (c .after .ensures)
+    (simp (call .before .places2 .ensures, address (at .before .before .before .before) .address-word .ensures) at
+    (call .find-page .ensures))
+
+returns-2 : tie.Need-returns-2
+unfolding insertStorageKey table way
+returns-2 c =
+    let sought = way (c .before .before .before) in
+    ended-on-way (sought .start .args .call .guest) (c .ending2 .result) sought (c .ending2 .ensures)
+    (c .before .enum-told2 .given .1)
+
+abbrev page : tie.After-known-told2 → Reached entry stage
+unfolding insertStorageKey table way
+page c = let at = c .before in found (way (at .before .before)) (at .found .given .1)
+
+-- step 11, the page is invalid: steps 12 to 14
+same-length-3 : tie.Need-same-length-3
+unfolding insertStorageKey table way page
+same-length-3 c =
+    let call = c .before .before .before in
+    call .insert-key .kept .1 .0 ∙ reached-keys (page (call .before .before .before))
+
+returns-3 : tie.Need-returns-3
+unfolding insertStorageKey table way page
+returns-3 c =
+    let call = c .before .before .before in
+    let test = call .before .before in
+    let here = page (test .before) in
+    let a = here .start .args in
+    finishes (a .call .guest) (call .insert-key .result) (c .answer-after .result) (a .storage .now)
+    (call .insert-key .last .1 .0) (chosen _ _ _ (here .runs) (test .if1 .taken)) (c .answer-after .ensures)
+    (call .insert-key .ensures)
+
+-- it is valid: steps 11 to 14
+same-length-4 : tie.Need-same-length-4
+unfolding insertStorageKey table way page
+same-length-4 c =
+    let call = c .before .before .before in
+    call .insert-block-key .kept .1 .0 ∙ reached-keys (page (call .before .before .before))
+
+returns-4 : tie.Need-returns-4
+unfolding insertStorageKey table way page
+returns-4 c =
+    let call = c .before .before .before in
+    let test = call .before .before in
+    let here = page (test .before) in
+    let a = here .start .args in
+    finishes (a .call .guest) (call .insert-block-key .result) (c .answer-after2 .result) (a .storage .now)
+    (call .insert-block-key .last .1 .0) (rejected _ _ _ (here .runs) (test .if1 .left)) (c .answer-after2 .ensures)
+    (call .insert-block-key .ensures)
+
+pub insert-storage-key-spec : {M : Type 1} → statement M
+insert-storage-key-spec =
+    tie.close
+    (tie.spec
+    (λ c κs. search needs)
+    (λ c κs. search needs)
+    (λ c κs. search needs)
+    (λ c κs. search needs)
+    (λ c. search needs)
+    (λ c. search needs)
+    (λ c κs. search needs)
+    (λ c. search needs)
+    returns
+    (λ c κs. search needs)
+    (λ c κs. search needs)
+    (λ c κs. search needs)
+    (λ c. search needs)
+    (λ c. search needs)
+    (λ c κs. search needs)
+    (λ c. search needs)
+    returns-2
+    (λ c κs. search needs)
+    (λ c κs. search needs)
+    same-length-3
+    returns-3
+    (λ c κs. search needs)
+    (λ c κs. search needs)
+    same-length-4
+    returns-4)

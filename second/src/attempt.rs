@@ -3,7 +3,7 @@
 use crate::ending::Ending;
 use crate::guest::Guest;
 use crate::insert_storage_key::insert_storage_key;
-use crate::machine::{Machine, Numbering};
+use crate::machine::Machine;
 use crate::references::{Reference, References};
 use crate::reset_reference_bit::reset_reference_bit;
 use crate::set_storage_key::set_storage_key;
@@ -79,15 +79,6 @@ impl Instruction {
         match self {
             Instruction::SetStorageKey | Instruction::InsertStorageKey => 2,
             _ => 4,
-        }
-    }
-
-    /// What ending 3 carries.
-    #[inline]
-    fn numbering(self) -> Numbering {
-        match self {
-            Instruction::InsertStorageKey | Instruction::ResetReferenceBit => Numbering::Places,
-            _ => Numbering::Steps,
         }
     }
 
@@ -182,7 +173,6 @@ fn run(
     expanded: bool,
 ) -> (Ending, Guest) {
     let performed = check_call(machine, guest, first_halfword).and_then(|instruction| {
-        machine.numbering = instruction.numbering();
         let record = perform(machine, guest, instruction, first_halfword, expanded)?;
         Ok(record.moved_on(instruction.length()))
     });

@@ -3,9 +3,6 @@
 use crate::address;
 use crate::bits::{word_bit, word_bits};
 
-/// PSW bits 18-19.
-const CONDITION_CODE: u32 = 0x0000_3000;
-
 /// The record that goes in by value and is handed back.
 #[derive(Clone, Copy, Debug, PartialEq, Eq)]
 pub struct Guest {
@@ -90,20 +87,19 @@ impl Guest {
         word_bits(self.psw_0_31, 18, 19)
     }
 
-    /// The record with another condition code, 0 to 3; nothing else changes.
+    /// The record with another rightmost byte (bits 24-31) in a general register (document 02, R-4).
     #[inline]
-    pub fn with_condition_code(&self, condition_code: u32) -> Guest {
-        let other_bits = self.psw_0_31 & !CONDITION_CODE;
-        Guest { psw_0_31: other_bits | (condition_code << 12 & CONDITION_CODE), ..*self }
+    pub fn with_rightmost_byte(&self, number: u32, byte: u8) -> Guest {
+        let mut guest = *self;
+        let register = &mut guest.general_registers[(number & 15) as usize];
+        *register = (*register & !0xFF) | u32::from(byte);
+        guest
     }
 
-    /// The record with another general register; only the four rightmost bits of the number are used, and nothing
-    /// else changes.
+    /// The record with this condition code in PSW bits 18-19 (document 02, R-4).
     #[inline]
-    pub fn with_general_register(&self, number: u32, value: u32) -> Guest {
-        let mut guest = *self;
-        guest.general_registers[(number & 15) as usize] = value;
-        guest
+    pub fn with_condition_code(&self, code: u32) -> Guest {
+        Guest { psw_0_31: (self.psw_0_31 & !0x0000_3000) | ((code & 3) << 12), ..*self }
     }
 
     /// The record with its instruction address moved on, modulo 2^24; nothing else changes.

@@ -1,56 +1,58 @@
 //! INSERT STORAGE KEY (document 02, R-4), by the steps of document 002.
 
-use crate::bits::{halfword_bits, word_bits};
-use crate::control_block::{fetch_micvpsw, fetch_virtual_psw};
+use crate::address::add;
+use crate::bits::{halfword_bit, halfword_bits, word_bit, word_bits};
 use crate::ending::Ending;
 use crate::guest::Guest;
-use crate::key_walk::{fetch_micrseg_of_4k_pages, walk};
 use crate::machine::{Machine, KEY_CHANGE, KEY_REFERENCE};
+use crate::real_page::{RealPage, Tried};
 use crate::references::References;
-use crate::set_storage_key::step_1_passes;
 
-/// Bits 0-4 of the virtual key.
+/// Virtual key bits 0-4: access and fetch protection. They go to register bits 24-28.
 const ACCESS_AND_FETCH: u8 = 0xF8;
+/// Bits 5 and 6, of a real key as of a virtual one. They go to register bits 29 and 30.
+const REFERENCE_AND_CHANGE: u8 = KEY_REFERENCE | KEY_CHANGE;
 
-/// Gives the record with register R1 changed; its instruction address is not moved on yet.
+/// Gives the record with the result register.
 pub fn insert_storage_key(
     machine: &mut Machine<impl References>,
     guest: &Guest,
     first_halfword: u16,
 ) -> Result<Guest, Ending> {
-    let r1_number = halfword_bits(first_halfword, 8, 11);
-    let r2 = guest.general_register(halfword_bits(first_halfword, 12, 15));
-    // (1) Control register 6 bits 0-2 not 100, or bits 28-31 of register R2 not zero: refuse.
+    let r1 = halfword_bits(first_halfword, 8, 11);
+    let second_operand = guest.general_register(halfword_bits(first_halfword, 12, 15));
+    // 1. Control register 6 bits 0-2 not 100, or bits 28-31 of register R2 not zero: refuse.
     machine.step = 1;
-    if !step_1_passes(guest.control_register_6, r2) {
+    if word_bits(guest.control_register_6, 0, 2) != 0b100 || word_bits(second_operand, 28, 31) != 0 {
         return Err(Ending::REFUSE);
     }
-    // (2) to (10)
-    let micrseg = fetch_micrseg_of_4k_pages(machine, guest)?;
-    let page = walk(machine, micrseg, word_bits(r2, 8, 31))?;
-    // (11) The real storage key, with what the fetches so far have recorded; not for an invalid page.
+    let address = word_bits(second_operand, 8, 31);
+    let mut tried = Tried::default();
+    // 2 and 3.
+    let micrseg = tried.micrseg(machine, guest)?;
+    // 4 to 10.
+    let page = RealPage::find(machine, &mut tried, micrseg, address, 4)?;
+    // 11. The real key, if the page entry is valid; else this step is not performed.
     machine.step = 11;
     let real_key = match page.real_address {
-        Some(real_address) => Some(machine.consult_page_key(real_address)?),
-        None => None,
+        Some(real_address) => tried.key(machine, real_address)?,
+        None => 0,
     };
-    // (12) MICVPSW.
+    // 12. MICVPSW, at offset 8: the address in bits 8-31.
     machine.step = 12;
-    let micvpsw = fetch_micvpsw(machine, guest)?;
-    // (13) The virtual PSW: the halfword of Figure 7.
+    let micvpsw = tried.word(machine, add(guest.micblok_address(), 8))?;
+    // 13. VMPSW: the halfword of Figure 7.
     machine.step = 13;
-    let virtual_psw = fetch_virtual_psw(machine, micvpsw)?;
-    // (14) Bits 24-31 of register R1.
+    let virtual_psw = tried.halfword(machine, word_bits(micvpsw, 8, 31))?;
+    // 14. Figure 6.
     machine.step = 14;
-    let inserted = inserted_byte(page.swap_word.virtual_key(), virtual_psw.ec_mode, real_key);
-    let r1 = guest.general_register(r1_number);
-    Ok(guest.with_general_register(r1_number, (r1 & !0xFF) | u32::from(inserted)))
+    let virtual_key = page.swap_word.to_be_bytes()[if word_bit(address, 20) { 3 } else { 2 }];
+    let ec_mode = halfword_bit(virtual_psw, 12);
+    Ok(guest.with_rightmost_byte(r1, first_operand_byte(virtual_key, real_key, ec_mode)))
 }
 
-/// Figure 6: bits 24-28 from the virtual key; bits 29-30 zeros in BC mode, in EC mode the virtual key's, ORed with
-/// those of the real key if the page is valid; bit 31 zero.
-fn inserted_byte(virtual_key: u8, ec_mode: bool, real_key: Option<u8>) -> u8 {
-    let reference_and_change =
-        if ec_mode { (virtual_key | real_key.unwrap_or(0)) & (KEY_REFERENCE | KEY_CHANGE) } else { 0 };
-    virtual_key & ACCESS_AND_FETCH | reference_and_change
+/// Bits 24-31 of the first operand. With an invalid page entry the real key is given as zero.
+fn first_operand_byte(virtual_key: u8, real_key: u8, ec_mode: bool) -> u8 {
+    let bits_29_30 = if ec_mode { (virtual_key | real_key) & REFERENCE_AND_CHANGE } else { 0 };
+    virtual_key & ACCESS_AND_FETCH | bits_29_30
 }

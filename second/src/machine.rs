@@ -11,13 +11,6 @@ use crate::references::{ReferenceKind, References};
 pub const KEY_REFERENCE: u8 = 0x04;
 pub const KEY_CHANGE: u8 = 0x02;
 
-/// What ending 3 carries.
-#[derive(Clone, Copy, Debug, PartialEq, Eq)]
-pub enum Numbering {
-    Steps,
-    Places,
-}
-
 /// Storage, keys, the references so far and the step that the attempt has reached.
 ///
 /// Before any access storage has been found to have at most 2^24 bytes, so an item that is a slice of it does
@@ -28,10 +21,6 @@ pub struct Machine<'a, R> {
     pub references: R,
     /// Step of the instruction; zero before the first.
     pub step: u8,
-    /// Control fields, virtual registers and the page's key block tried so far: the place of the last one, from 1.
-    tried: u8,
-    /// Whether ending 3 carries the step or that place.
-    pub numbering: Numbering,
     /// Step of the translation walk in which an exception was found (7: real address not in storage, 8: protection
     /// by the key, 9: low-address protection, before the walk); zero if none. For reports only.
     pub walk_step: u8,
@@ -40,7 +29,7 @@ pub struct Machine<'a, R> {
 impl<'a, R: References> Machine<'a, R> {
     #[inline]
     pub fn new(storage: &'a mut [u8], keys: &'a mut [u8], references: R) -> Machine<'a, R> {
-        Machine { storage, keys, references, step: 0, tried: 0, numbering: Numbering::Steps, walk_step: 0 }
+        Machine { storage, keys, references, step: 0, walk_step: 0 }
     }
 
     /// The numbers of bytes of storage and of keys.
@@ -65,34 +54,15 @@ impl<'a, R: References> Machine<'a, R> {
         Some(bytes)
     }
 
-    /// Fetch a control field or virtual register; a field not in storage gives ending 3.
+    /// Fetch a control field or virtual register; a field not in storage gives ending 3 with the step number.
     #[inline]
     pub fn fetch_field<const N: usize>(
         &mut self,
         kind: ReferenceKind,
         address: u32,
     ) -> Result<[u8; N], Ending> {
-        self.tried += 1;
-        self.fetch(kind, address).ok_or_else(|| self.not_in_storage())
-    }
-
-    /// Consult the key of the block with this real address, the page's; a block not in storage gives ending 3 and
-    /// makes no entry.
-    #[inline]
-    pub fn consult_page_key(&mut self, real_address: u32) -> Result<u8, Ending> {
-        self.tried += 1;
-        if !self.contains::<1>(real_address) {
-            return Err(self.not_in_storage());
-        }
-        Ok(self.consult_key(real_address))
-    }
-
-    /// Ending 3 for the control field or key block tried last.
-    fn not_in_storage(&self) -> Ending {
-        Ending::NotInStorage(match self.numbering {
-            Numbering::Steps => NotThere::Step(self.step),
-            Numbering::Places => NotThere::Place(self.tried),
-        })
+        let step = self.step;
+        self.fetch(kind, address).ok_or(Ending::NotInStorage(NotThere::Step(step)))
     }
 
     /// Store bytes at a real address that has been found to be in storage; one entry is made, and the blocks'

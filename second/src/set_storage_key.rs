@@ -1,11 +1,13 @@
 //! SET STORAGE KEY, by the steps of document 01.
 
-use crate::bits::{halfword_bits, word_bits};
-use crate::ending::Ending;
+use crate::address::{add, subtract};
+use crate::bits::{halfword_bits, word_bit, word_bits};
+use crate::control_block::{fetch_field_halfword, fetch_field_word, fetch_micrseg};
+use crate::ending::{Ending, NotThere};
 use crate::guest::Guest;
-use crate::key_walk::{fetch_micrseg_of_4k_pages, walk};
-use crate::machine::Machine;
+use crate::machine::{Machine, KEY_CHANGE, KEY_REFERENCE};
 use crate::references::References;
+use crate::translation::{page_table_origin, segment_table_origin, Format};
 
 /// Key bits 0-4: access and fetch protection.
 const KEY_ACCESS_AND_FETCH: u8 = 0xF8;
@@ -25,29 +27,110 @@ pub fn set_storage_key(
     let address = word_bits(r2, 8, 31);
     // (1) Control register 6 bits 0-2 not 100, or bits 28-31 of register R2 not zero: refuse.
     machine.step = 1;
-    if !step_1_passes(guest.control_register_6, r2) {
+    if word_bits(guest.control_register_6, 0, 2) != 0b100 || word_bits(r2, 28, 31) != 0 {
         return Err(Ending::REFUSE);
     }
-    // (2) to (10)
-    let micrseg = fetch_micrseg_of_4k_pages(machine, guest)?;
-    let page = walk(machine, micrseg, address)?;
+    // (2) MICRSEG.
+    machine.step = 2;
+    let micrseg = fetch_micrseg(machine, guest)?;
+    let format = check_micrseg(machine, micrseg, address)?;
+    let segment_entry = fetch_segment_entry(machine, micrseg, format, address)?;
+    let page_table = page_table_origin(segment_entry);
+    let (swap_address, swap_word) = fetch_swap_word(machine, page_table, format.page_index(address))?;
+    let real_address = fetch_page_entry(machine, page_table, format, address)?;
     // (11) If invalid, take both bits as zero and touch no key.
     machine.step = 11;
-    let key = match page.real_address {
+    let key = match real_address {
         Some(real_address) => exchange_key(machine, real_address, new_key)?,
         None => 0,
     };
-    // (12) OR the bits into the swap word, and put R1 bits 24-30 and a zero in byte 2 or 3.
+    // (12)
     machine.step = 12;
-    let new_word = page.swap_word.with_backup(key).with_virtual_key(new_key & VIRTUAL_KEY);
-    machine.store(page.swap_address, new_word.word.to_be_bytes());
+    let new_word = new_swap_word(swap_word, key, new_key, word_bit(address, 20));
+    machine.store(swap_address, new_word);
     Ok(())
 }
 
-/// Control register 6 bits 0-2 are 100, and bits 28-31 of register R2 are zero (SSK and ISK step 1).
+/// Steps 3 and 4.
 #[inline]
-pub fn step_1_passes(control_register_6: u32, r2: u32) -> bool {
-    word_bits(control_register_6, 0, 2) == 0b100 && word_bits(r2, 28, 31) == 0
+fn check_micrseg(
+    machine: &mut Machine<impl References>,
+    micrseg: u32,
+    address: u32,
+) -> Result<Format, Ending> {
+    // (3) Its bit 30 one: refuse.
+    machine.step = 3;
+    if word_bit(micrseg, 30) {
+        return Err(Ending::REFUSE);
+    }
+    // (4) 4K pages; bit 31 chooses 1M segments. For 64K, length (bits 0-7) below address bits 8-11: refuse.
+    machine.step = 4;
+    let format = Format { pages_of_4k: true, segments_of_1m: word_bit(micrseg, 31) };
+    if !format.segments_of_1m && word_bits(micrseg, 0, 7) < word_bits(address, 8, 11) {
+        return Err(Ending::REFUSE);
+    }
+    Ok(format)
+}
+
+/// Steps 5 and 6.
+#[inline]
+fn fetch_segment_entry(
+    machine: &mut Machine<impl References>,
+    micrseg: u32,
+    format: Format,
+    address: u32,
+) -> Result<u32, Ending> {
+    // (5) Segment entry; origin from MICRSEG bits 8-25.
+    machine.step = 5;
+    let entry_address = add(segment_table_origin(micrseg), 4 * format.segment_index(address));
+    let entry = fetch_field_word(machine, entry_address)?;
+    // (6) Bit 31 one, bits 4-7 not zero, or page index too long: refuse.
+    machine.step = 6;
+    let page_index_too_long = format.page_index_leftmost_four(address) > word_bits(entry, 0, 3);
+    if word_bit(entry, 31) || word_bits(entry, 4, 7) != 0 || page_index_too_long {
+        return Err(Ending::REFUSE);
+    }
+    Ok(entry)
+}
+
+/// Steps 7 and 8: gives the address of the swap word, and the word.
+#[inline]
+fn fetch_swap_word(
+    machine: &mut Machine<impl References>,
+    page_table: u32,
+    page_index: u32,
+) -> Result<(u32, u32), Ending> {
+    // (7) Word at page-table origin - 4, the swap-table address (bits 8-31).
+    machine.step = 7;
+    let word = fetch_field_word(machine, subtract(page_table, 4))?;
+    let swap_table = word_bits(word, 8, 31);
+    // (8) Word there + 8 times the page index.
+    machine.step = 8;
+    let swap_address = add(swap_table, 8 * page_index);
+    let swap_word = fetch_field_word(machine, swap_address)?;
+    Ok((swap_address, swap_word))
+}
+
+/// Steps 9 and 10: gives the real address if the page is valid.
+#[inline]
+fn fetch_page_entry(
+    machine: &mut Machine<impl References>,
+    page_table: u32,
+    format: Format,
+    address: u32,
+) -> Result<Option<u32>, Ending> {
+    // (9) Page entry.
+    machine.step = 9;
+    let entry = fetch_field_halfword(machine, add(page_table, 2 * format.page_index(address)))?;
+    // (10) Valid with bits 13-14 not zero: refuse.
+    machine.step = 10;
+    if format.page_invalid(entry) {
+        return Ok(None);
+    }
+    if format.page_format_wrong(entry) {
+        return Err(Ending::REFUSE);
+    }
+    Ok(Some(format.real_address(entry, address)))
 }
 
 /// Step 11 for a valid page: gives the key as found, with what the fetches of the steps before have recorded.
@@ -57,7 +140,24 @@ fn exchange_key(
     real_address: u32,
     new_key: u8,
 ) -> Result<u8, Ending> {
-    let old = machine.consult_page_key(real_address)?;
+    if !machine.contains::<1>(real_address) {
+        return Err(Ending::NotInStorage(NotThere::Step(machine.step)));
+    }
+    let old = machine.consult_key(real_address);
     machine.set_key(real_address, (new_key & KEY_ACCESS_AND_FETCH) | (old & KEY_BIT_7));
     Ok(old)
+}
+
+/// Step 12: bits 4 and 5 with byte 2 (address bit 20 zero), or bits 6 and 7 with byte 3 (one).
+fn new_swap_word(swap_word: u32, key: u8, new_key: u8, bit_20: bool) -> [u8; 4] {
+    let mut bytes = swap_word.to_be_bytes();
+    let (reference_bit, change_bit, key_byte) = if bit_20 { (0x02, 0x01, 3) } else { (0x08, 0x04, 2) };
+    if key & KEY_REFERENCE != 0 {
+        bytes[0] |= reference_bit;
+    }
+    if key & KEY_CHANGE != 0 {
+        bytes[0] |= change_bit;
+    }
+    bytes[key_byte] = new_key & VIRTUAL_KEY;
+    bytes
 }

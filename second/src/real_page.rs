@@ -91,12 +91,8 @@ impl RealPage {
         machine.step = step + 1;
         let segment_table = segment_table_origin(micrseg);
         let segment_entry = tried.word(machine, add(segment_table, 4 * format.segment_index(address)))?;
-        // Invalid, of invalid format, or its page table too short: refuse.
         machine.step = step + 2;
-        let too_short = format.page_index_leftmost_four(address) > word_bits(segment_entry, 0, 3);
-        if word_bit(segment_entry, 31) || word_bits(segment_entry, 4, 7) != 0 || too_short {
-            return Err(Ending::REFUSE);
-        }
+        check_segment_entry(format, segment_entry, address)?;
         // PAGSWP, the swap-table address in bits 8-31 of the word before the page table.
         machine.step = step + 3;
         let page_table = page_table_origin(segment_entry);
@@ -118,4 +114,14 @@ impl RealPage {
         let real_address = valid.then(|| format.real_address(page_entry, address));
         Ok(RealPage { swap_address, swap_word, real_address })
     }
+}
+
+/// Invalid, of invalid format, or its page table too short: refuse.
+#[inline]
+fn check_segment_entry(format: Format, entry: u32, address: u32) -> Result<(), Ending> {
+    let too_short = format.page_index_leftmost_four(address) > word_bits(entry, 0, 3);
+    if word_bit(entry, 31) || word_bits(entry, 4, 7) != 0 || too_short {
+        return Err(Ending::REFUSE);
+    }
+    Ok(())
 }

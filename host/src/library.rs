@@ -4,6 +4,8 @@ use crate::record::Record;
 use crate::written::Written;
 
 #[cfg(test)]
+mod first_halfwords;
+#[cfg(test)]
 mod tests;
 
 extern "C" {

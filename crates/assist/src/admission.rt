@@ -3,6 +3,7 @@ ghost use mathlib.Core.Path.{_≡_};
 ghost use Rattle.rules.specs.Attempt.{wrongStorage, wrongKeys, oddAddress, isAssisted, wrongMode};
 ghost use Rattle.storage.specs.Answers.{answer};
 use rules::Answer;
+use rules::Call;
 use rules::Ending;
 use rules::Guest;
 
@@ -27,17 +28,12 @@ pub(crate) fn is_odd(guest: Guest) -> bool
     guest.instruction_address() % 2 != 0
 }
 
-// 13, where it is not: one of the seven.
-pub(crate) fn is_assisted(operation: u32) -> bool
-    ensures { λ r. ⌜ r ≡ isAssisted operation ⌝ }
+// 13, where it is not: the table marks the operation byte, and B2 has 13 as its second byte.
+pub(crate) fn is_assisted(call: Call) -> bool
+    ensures { λ r. ⌜ r ≡ isAssisted call ⌝ }
 {
-    (operation == 0x80)
-        | (operation == 0xb6)
-        | (operation == 0xac)
-        | (operation == 0xad)
-        | (operation == 0x08)
-        | (operation == 0x09)
-        | (operation == 0xb213)
+    let byte = call.operation_byte();
+    operations::begins_assisted(byte) & ((byte != 0xb2) | (call.operation() == 0xb213))
 }
 
 // 9: real PSW bit 12 or bit 15 is zero.

@@ -84,7 +84,7 @@ fn program(storage: &mut [u8], keys: &mut [u8], call: Call) -> Answer
     if is_odd(guest) {
         return not_admitted(Ending::OddInstructionAddress, guest);
     }
-    if !is_assisted(call.operation()) {
+    if !is_assisted(call) {
         return not_admitted(Ending::NotAssisted, guest);
     }
     if is_wrong_mode(guest) {

@@ -47,5 +47,5 @@ pub fn store_control(storage: &mut [u8], keys: &mut [u8], call: Call) -> Answer
     let reals = words.words;
     let values = registers.words;
     store_words(storage, keys, reals, values, n);
-    storage::completed(call, 4, count, n)
+    storage::completed(call, count, n)
 }

@@ -124,5 +124,5 @@ pub fn set_system_mask(storage: &mut [u8], keys: &mut [u8], call: Call) -> Answe
     };
     // 10
     put_mask(storage, keys, at, new);
-    storage::completed(call, 4, count, 1)
+    storage::completed(call, count, 1)
 }

@@ -107,5 +107,5 @@ pub fn store_then(storage: &mut [u8], keys: &mut [u8], change: MaskChange, call:
     // 7
     storage::store_byte(storage, keys, real, old);
     put_mask(storage, keys, at, new);
-    storage::completed(call, 4, count, 2)
+    storage::completed(call, count, 2)
 }

@@ -13,6 +13,7 @@ use mathlib.Core.Path.{_≡_, refl}
 use mathlib.Core.Bool.{Bool, true, false, cond, _&&_, true≢false}
 use lib.ListN.{length}
 use lib.Dec.{eqb}
+use Rattle.operations.specs.Operations.{lengthOf}
 use Rattle.rules.specs.Bits.{bit}
 use Rattle.rules.specs.Guest.{Guest, advance}
 use Rattle.rules.specs.Endings.{
@@ -30,8 +31,8 @@ use Rattle.rules.specs.Endings.{
 }
 use Rattle.rules.specs.Steps.{Steps, _>>=_, fetchBytes, consultKey, stopIf}
 use Rattle.rules.specs.Access.{realOf, keyTest, access, storeTest, logicalFetch}
-use Rattle.rules.specs.Call.{Call, expanded, Completion}
-use Rattle.rules.specs.Theorems.Answers.{table, listed, Possible, instructionLength, withoutResult}
+use Rattle.rules.specs.Call.{Call, operationByte, expanded, Completion}
+use Rattle.rules.specs.Theorems.Answers.{table, listed, Possible, withoutResult}
 use Rattle.rules.proofs.Computing.{walking}
 use Rattle.rules.proofs.Within.{Within, Any, within-then}
 
@@ -115,7 +116,7 @@ logicalFetch-within E g a n x =
 
 -- a record that differs from the call's by the instruction's length and result alone
 abbrev pub Advanced : (op : ℕ) → Call → Guest → Type 0
-Advanced op c g = withoutResult op c g ≡ withoutResult op c (advance (c .guest) (instructionLength op))
+Advanced op c g = withoutResult op c g ≡ withoutResult op c (advance (c .guest) (lengthOf (operationByte c)))
 
 -- a completion: the record moved on, and no more writes than references left
 pub record Completes (op : ℕ) (c : Call) (k : Completion) (left : ℕ) : Type 0 where

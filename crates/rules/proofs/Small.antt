@@ -7,13 +7,9 @@ use mathlib.Core.Logic.{⊎-elim}
 use mathlib.Core.List.{List, [], _∷_}
 use lib.Dec.{eqb, ltb}
 use borrow.Author.Tests.{eqb-true, ltb-true}
+use Rattle.operations.proofs.Junctions.{both-true, either-true}
 use Rattle.rules.specs.Endings.{Ending, numbers}
 use Rattle.rules.specs.Theorems.Answers.{Line, table, among, listed, Possible}
-use Rattle.rules.proofs.Fits.Attempt.{either-true}
-
-pub both-true : (a b : Bool) → (a && b) ≡ true → (a ≡ true) × (b ≡ true)
-both-true true b h = (refl, h)
-both-true false b h = absurd (true≢false (sym h))
 
 -- each number of a list is below 256, and each number and code of a table
 abbrev below : List ℕ → Bool

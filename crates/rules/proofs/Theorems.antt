@@ -1,4 +1,5 @@
 -- The proofs of what specs/Theorems states.
+pub mod Operations
 pub mod Answers
 pub mod Edges
 pub mod MissingFields

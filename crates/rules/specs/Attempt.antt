@@ -1,10 +1,11 @@
 -- One attempt: the tests 10, 11, 12, 13 and 9, then an instruction's reading program, then its writes.
 -- Document 01, "The numbered endings".
 use Prim.Native.Nat.{ℕ, _/_, _%_}
-use mathlib.Core.Bool.{Bool, not, _||_}
+use mathlib.Core.Bool.{Bool, not, _&&_, _||_}
 use mathlib.Core.List.{List, _++_, map}
 use lib.ListN.{length}
 use lib.Dec.{eqb, ltb}
+use Rattle.operations.specs.Operations.{beginsAssisted}
 use Rattle.rules.specs.Endings.{
   Ending,
   Completed,
@@ -22,7 +23,7 @@ use Rattle.rules.specs.References.{Reference}
 use Rattle.rules.specs.Recording.{notedAll}
 use Rattle.rules.specs.Steps.{Steps, branch, _>>=_, _>>_, stopIf}
 use Rattle.rules.specs.Run.{Outcome, ended, gave, Run, run}
-use Rattle.rules.specs.Call.{Call, operation, Completion}
+use Rattle.rules.specs.Call.{Call, operationByte, operation, Completion}
 use Rattle.rules.specs.SetSystemMask.{setSystemMask}
 use Rattle.rules.specs.StoreControl.{storeControl}
 use Rattle.rules.specs.StoreThenMask.{storeThenAnd, storeThenOr}
@@ -44,10 +45,9 @@ wrongKeys bytes keys = not (eqb keys (bytes / 2048))
 abbrev pub oddAddress : Guest → Bool
 oddAddress g = not (eqb (instructionAddress g % 2) 0)
 
--- 13: the operation code is none of the seven
-abbrev pub isAssisted : (operation : ℕ) → Bool
-isAssisted op =
-    eqb op 0x80 || eqb op 0xb6 || eqb op 0xac || eqb op 0xad || eqb op 0x08 || eqb op 0x09 || eqb op 0xb213
+-- 13, where it is not: the operation byte is marked, and B2 has 13 as its second byte
+abbrev pub isAssisted : Call → Bool
+isAssisted c = beginsAssisted (operationByte c) && (not (eqb (operationByte c) 0xb2) || eqb (operation c) 0xb213)
 
 -- 9: real PSW bit 12 or bit 15 is zero
 abbrev pub wrongMode : Guest → Bool
@@ -59,7 +59,7 @@ admitted bytes keys next c = do
   stopIf (wrongStorage bytes) WrongStorageSize
   stopIf (wrongKeys bytes keys) WrongKeyCount
   stopIf (oddAddress (c .guest)) OddInstructionAddress
-  stopIf (not (isAssisted (operation c))) NotAssisted
+  stopIf (not (isAssisted c)) NotAssisted
   stopIf (wrongMode (c .guest)) WrongMode
   next c
 

@@ -4,6 +4,7 @@ use Prim.Native.Nat.{ℕ}
 use mathlib.Core.Bool.{cond, _&&_}
 use mathlib.Core.List.{List}
 use lib.Dec.{eqb}
+use Rattle.operations.specs.Operations.{lengthOf}
 use Rattle.rules.specs.Guest.{Guest, advance}
 use Rattle.rules.specs.Bits.{bit, halfword}
 use Rattle.rules.specs.Writes.{Write}
@@ -12,9 +13,12 @@ use Rattle.rules.specs.Steps.{Steps, done}
 -- the record, the first halfword, and whether the expanded assist is installed
 pub use Rattle.rules.specs.declared.call.Call.{Call}
 
+abbrev pub operationByte : Call → ℕ
+operationByte c = halfword 0 7 (c .first)
+
 -- the operation code: a byte, or two where the first is B2
 abbrev pub operation : Call → ℕ
-operation c = cond (eqb (halfword 0 7 (c .first)) 0xb2) (c .first) (halfword 0 7 (c .first))
+operation c = cond (eqb (operationByte c) 0xb2) (c .first) (operationByte c)
 
 abbrev pub r1 : Call → ℕ
 r1 c = halfword 8 11 (c .first)
@@ -40,10 +44,10 @@ pub record Completion : Type 0 where
   pub guest : Guest
   pub writes : List Write
 
--- completed: this record with its instruction address moved on by n, and the writes to be made
-unfoldable pub completeAs : Guest → (n : ℕ) → List Write → Steps Completion
-completeAs g n writes = done (record { guest = advance g n; writes = writes })
+-- completed: this record, its instruction address moved on by the instruction's length, and the writes to be made
+unfoldable pub completeAs : Call → Guest → List Write → Steps Completion
+completeAs c g writes = done (record { guest = advance g (lengthOf (operationByte c)); writes = writes })
 
 -- completed with nothing else changed in the record
-abbrev pub complete : Call → (n : ℕ) → List Write → Steps Completion
-complete c = completeAs (c .guest)
+abbrev pub complete : Call → List Write → Steps Completion
+complete c = completeAs c (c .guest)

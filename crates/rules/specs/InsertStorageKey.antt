@@ -33,7 +33,7 @@ unfoldable pub insertKey : Call → FoundPage → (tried marks : ℕ) → Steps 
 insertKey c page tried marks = do
   vpsw ← micvpsw (tried + 1) (c .guest)  -- 12
   first ← controlHalfword (tried + 2) (addressIn vpsw)  -- 13
-  completeAs (withByte (c .guest) (r1 c) (insertedKey (extendedIn first) (virtualKey page) marks)) 2 []  -- 14
+  completeAs c (withByte (c .guest) (r1 c) (insertedKey (extendedIn first) (virtualKey page) marks)) []  -- 14
 
 -- step 11: the key of a valid page's block
 unfoldable pub insertBlockKey : Call → FoundPage → Steps Completion

@@ -22,7 +22,7 @@ unreferred k = bits 8 0 4 k * 8 + bits 8 6 7 k
 -- reference bit plus the change bit, each ORed with the virtual one (GA22-7000).
 unfoldable pub storeReset : Call → FoundPage → List Write → (marks : ℕ) → Steps Completion
 storeReset c page keys marks =
-    completeAs (withCode (c .guest) (bitOr marks (bits 8 5 6 (virtualKey page)))) 4
+    completeAs c (withCode (c .guest) (bitOr marks (bits 8 5 6 (virtualKey page))))
     (keys ++ store (page .place) 4 (swapWith page (unreferred (virtualKey page)) marks) ∷ [])
 
 -- step 12: the key of a valid page's block

@@ -3,6 +3,7 @@
 pub mod Samples
 pub mod ReferenceBits
 pub mod Answers
+pub mod Operations
 pub mod Edges
 pub mod KeyEdges
 pub mod MissingFields

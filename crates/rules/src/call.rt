@@ -1,6 +1,7 @@
 // A call: the guest's record, the first halfword of the instruction, and whether the expanded assist is installed.
 ghost use mathlib.Core.Path.{_≡_};
-ghost use Rattle.rules.specs.Call.{operation, r1, r2, immediate, expanded};
+ghost use Rattle.operations.specs.Operations.{lengthOf};
+ghost use Rattle.rules.specs.Call.{operationByte, operation, r1, r2, immediate, expanded};
 use crate::Ending;
 use crate::Exception;
 use crate::Guest;
@@ -12,11 +13,24 @@ pub struct Call {
 }
 
 impl Call {
-    // A byte, or two where the first is B2.
+    pub fn operation_byte(self) -> u8
+        ensures { λ r. ⌜ r ≡ operationByte self ⌝ }
+    {
+        (self.first / 256 % 256) as u8
+    }
+
+    // The instruction's length in bytes.
+    pub fn length(self) -> u32
+        ensures { λ r. ⌜ r ≡ lengthOf (operationByte self) ⌝ }
+    {
+        operations::length_of(self.operation_byte())
+    }
+
+    // The operation code: a byte, or two where the first is B2.
     pub fn operation(self) -> u32
         ensures { λ r. ⌜ r ≡ operation self ⌝ }
     {
-        let byte = self.first / 256 % 256;
+        let byte = self.operation_byte();
         if byte == 0xb2 {
             return self.first as u32;
         }

@@ -5,6 +5,7 @@ use mathlib.Core.Path.{_≡_, refl, sym, ap, _∙_}
 use mathlib.Core.Bool.{Bool, true, false}
 use mathlib.Core.List.{List}
 use lib.ListN.{length}
+use Rattle.operations.specs.Operations.{lengthOf}
 use Rattle.rules.specs.declared.endings.Ending.{Ending}
 use Rattle.rules.specs.declared.endings.Ending.the-variants.{Completed}
 use Rattle.rules.specs.declared.guest.Guest.{Guest}
@@ -15,7 +16,7 @@ use Rattle.rules.specs.Endings.{refuse}
 use Rattle.rules.specs.Machine.{Machine}
 use Rattle.rules.specs.Writes.{Write, performAll}
 use Rattle.rules.specs.Steps.{Steps, done, branch, _>>=_, stopIf, endingAs}
-use Rattle.rules.specs.Call.{Completion, completeAs, complete}
+use Rattle.rules.specs.Call.{operationByte, Completion, completeAs, complete}
 use Rattle.rules.specs.Recording.{notedAll}
 use Rattle.rules.specs.Run.{Outcome, ended, gave, run, View, view}
 use Rattle.rules.proofs.Recording.{notedAll-length}
@@ -203,20 +204,21 @@ module _ {v : View Completion} (g : Guest) (x : Answer) (s ks : List ℕ) where
   stopped-by a f = ap (λ y. finished y s ks) a ∙ ap (finish g) f
 
 -- the writes were made, and the record is this one, moved on
-pub completes-as : {m m′ : Machine} {t : Steps Completion} {n : ℕ} (g h : Guest) (x : Answer) (s ks : List ℕ)
-    (bytes : ℕ) (ws : List Write) → Runs m t n m′ (completeAs h bytes ws) → x ≡ completionAs h bytes n (length ws)
+pub completes-as : {m m′ : Machine} {t : Steps Completion} {n : ℕ} (c : Call) (g h : Guest) (x : Answer) (s ks : List ℕ)
+    (ws : List Write) → Runs m t n m′ (completeAs c h ws) → x ≡ completionAs h (lengthOf (operationByte c)) n (length ws)
     → machine s ks ≡ performAll m′ ws → finished x s ks ≡ finish g (seen t m)
 unfolding completeAs
-completes-as {m} {m′} {t} {n} g h x s ks bytes ws runs a b =
+completes-as {m} {m′} {t} {n} c g h x s ks ws runs a b =
+    let bytes = lengthOf (operationByte c) in
     ap (λ y. finished y s ks) a
     ∙ ap (λ l. record { answer = completionAs h bytes n (length ws); after = l }) b
     ∙ ap (finish g) (settles (record { guest = advance h bytes; writes = ws }) runs)
 
 -- and where it is the call's own
-pub completes : {m m′ : Machine} {t : Steps Completion} {n : ℕ} (c : Call) (x : Answer) (s ks : List ℕ) (bytes : ℕ)
-    (ws : List Write) → Runs m t n m′ (complete c bytes ws) → x ≡ completion c bytes n (length ws)
+pub completes : {m m′ : Machine} {t : Steps Completion} {n : ℕ} (c : Call) (x : Answer) (s ks : List ℕ)
+    (ws : List Write) → Runs m t n m′ (complete c ws) → x ≡ completion c n (length ws)
     → machine s ks ≡ performAll m′ ws → finished x s ks ≡ finish (c .guest) (seen t m)
-completes c = completes-as (c .guest) (c .guest)
+completes c = completes-as c (c .guest) (c .guest)
 
 -- a later stage's answer handed on
 abbrev deferred : ℕ → Finished → Finished

@@ -3,6 +3,7 @@ use Prim.Native.Nat.{ℕ, _+_, _%_, _^_}
 use mathlib.Core.Path.{_≡_}
 use mathlib.Core.List.{List}
 use lib.ListN.{length}
+use Rattle.operations.specs.Operations.{lengthOf}
 use Rattle.rules.specs.declared.endings.Ending.{Ending}
 use Rattle.rules.specs.declared.endings.Ending.the-variants.{Completed}
 use Rattle.rules.specs.declared.guest.Guest.{Guest}
@@ -14,7 +15,7 @@ use Rattle.rules.specs.Machine.{Machine}
 use Rattle.rules.specs.Writes.{performAll}
 use Rattle.rules.specs.Steps.{Steps, fetchBytes}
 use Rattle.rules.specs.Run.{Outcome, ended, gave, View, view}
-use Rattle.rules.specs.Call.{Completion}
+use Rattle.rules.specs.Call.{operationByte, Completion}
 use Rattle.storage.specs.Items.{Item, Of, Missing}
 pub use Rattle.storage.specs.declared.steps.Stepped.{Stepped}
 pub use Rattle.storage.specs.declared.steps.Stepped.the-variants.{Value, Stopped}
@@ -94,12 +95,13 @@ abbrev pub ending : Stepped → Guest → Answer
 ending (Value v n) g = answer Completed n g
 ending (Stopped e n) g = answer e n g
 
--- the answer of a completion, whose record is moved on by so many bytes; and where it is the call's own
+-- the answer of a completion, whose record is moved on by so many bytes
 abbrev pub completionAs : Guest → (bytes reads writes : ℕ) → Answer
 completionAs g bytes reads writes = answer Completed ((reads + writes) % 2 ^ 32) (advance g bytes)
 
-abbrev pub completion : Call → (bytes reads writes : ℕ) → Answer
-completion c = completionAs (c .guest)
+-- and where it is the call's own record, moved on by the instruction's length
+abbrev pub completion : Call → (reads writes : ℕ) → Answer
+completion c = completionAs (c .guest) (lengthOf (operationByte c))
 
 -- after n references more
 abbrev pub laterAnswer : (n : ℕ) → Answer → Answer

@@ -39,11 +39,11 @@ pub fn completed_as(guest: Guest, bytes: u32, reads: u32, writes: u32) -> Answer
     }
 }
 
-// The same with nothing else changed in the call's record.
-pub fn completed(call: Call, bytes: u32, reads: u32, writes: u32) -> Answer
-    ensures { λ r. ⌜ r ≡ completion call bytes reads writes ⌝ }
+// Completion with the call's own record, moved on by the instruction's length.
+pub fn completed(call: Call, reads: u32, writes: u32) -> Answer
+    ensures { λ r. ⌜ r ≡ completion call reads writes ⌝ }
 {
-    completed_as(call.guest, bytes, reads, writes)
+    completed_as(call.guest, call.length(), reads, writes)
 }
 
 // An answer after n references more.

@@ -48,7 +48,7 @@ fn insert_key(
     };
     // 14: the EC mode is bit 12
     let key = inserted_key(first / 8 % 2 == 1, virtual_key(page), marks);
-    storage::completed_as(guest.with_byte(call.r1(), key), 2, count, 0)
+    storage::completed_as(guest.with_byte(call.r1(), key), call.length(), count, 0)
 }
 
 // Step 11 on a valid page, and steps 12 to 14.

@@ -35,7 +35,8 @@ fn reset_block_key(storage: &mut [u8], keys: &mut [u8], call: Call, page: FoundP
     // 12, and then 13
     storage::set_key(keys, block, unreferred(old));
     storage::store_word(storage, keys, page.place, reset_word(page, marks));
-    storage::completed_as(guest.with_code(marks_with(page, marks)), 4, count, 2)
+    let coded = guest.with_code(marks_with(page, marks));
+    storage::completed_as(coded, call.length(), count, 2)
 }
 
 pub fn reset_reference_bit(storage: &mut [u8], keys: &mut [u8], call: Call) -> Answer
@@ -65,7 +66,8 @@ pub fn reset_reference_bit(storage: &mut [u8], keys: &mut [u8], call: Call) -> A
     if page.invalid {
         // 13
         storage::store_word(storage, keys, page.place, reset_word(page, 0));
-        return storage::completed_as(guest.with_code(marks_with(page, 0)), 4, count, 1);
+        let coded = guest.with_code(marks_with(page, 0));
+        return storage::completed_as(coded, call.length(), count, 1);
     }
     storage::answer_after(reset_block_key(storage, keys, call, page), count)
 }

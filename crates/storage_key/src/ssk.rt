@@ -40,7 +40,7 @@ fn set_block_key(storage: &mut [u8], keys: &mut [u8], call: Call, page: FoundPag
         page.place,
         swap_word(call, page, old / 2 % 4),
     );
-    storage::completed(call, 2, count, 2)
+    storage::completed(call, count, 2)
 }
 
 pub fn set_storage_key(storage: &mut [u8], keys: &mut [u8], call: Call) -> Answer
@@ -65,7 +65,7 @@ pub fn set_storage_key(storage: &mut [u8], keys: &mut [u8], call: Call) -> Answe
     if page.invalid {
         // 12
         storage::store_word(storage, keys, page.place, swap_word(call, page, 0));
-        return storage::completed(call, 2, count, 1);
+        return storage::completed(call, count, 1);
     }
     storage::answer_after(set_block_key(storage, keys, call, page), count)
 }

@@ -7,7 +7,7 @@ use lib.ListN.{length}
 use lib.Dec.{ltb, leb}
 use lib.Seq.{sets}
 use borrow.Author.Tests.{le-ltb, ltb-false, leb-true}
-use Rattle.rules.proofs.Small.{both-true}
+use Rattle.operations.proofs.Junctions.{both-true}
 use Rattle.trail.specs.Records.{Entry, trailerBytes}
 use Rattle.trail.specs.Trails.{
   Trail,

@@ -64,10 +64,9 @@ returns-3 c =
 abbrev assisted : tie.After-is-assisted → Tested entry stage
 unfolding admitted storage keys odd
 assisted c =
-    let even = c .before .before in
-    let here = passed (odd (even .before)) (even .if3 .left) in
+    let here = passed (odd (c .before .before)) (c .before .if3 .left) in
     tests (here .start) _ _ _ (here .runs) (not (c .is-assisted .result))
-    (ap not (simp (c .before .operation .ensures) at (c .is-assisted .ensures)))
+    (ap not (c .is-assisted .ensures))
 
 returns-4 : tie.Need-returns-4
 unfolding admitted storage keys odd assisted
@@ -113,7 +112,6 @@ program-spec =
     (λ c κs. search needs)
     (λ c κs. search needs)
     returns-3
-    (λ c κs. search needs)
     (λ c κs. search needs)
     (λ c κs. search needs)
     returns-4

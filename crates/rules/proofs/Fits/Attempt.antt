@@ -1,12 +1,12 @@
 -- The attempt: how it can end, and at most 85 references.
 use Prim.Native.Nat.{ℕ, _≤_}
 use native.Mathlib.Omega.{arith}
-use mathlib.Core.Path.{_≡_, refl, sym, subst}
-use mathlib.Core.Bool.{Bool, true, false, not, _||_, true≢false}
-use mathlib.Core.Logic.{_⊎_, inl, inr, ⊎-elim}
+use mathlib.Core.Path.{_≡_, refl, sym, _∙_, ap, subst}
+use mathlib.Core.Bool.{Bool, true, false, or-false, true≢false}
 use lib.ListN.{length}
 use lib.Dec.{eqb}
 use borrow.Author.Tests.{eqb-true, not-true, not-false}
+use Rattle.operations.proofs.Junctions.{neither-true}
 use Rattle.rules.specs.Machine.{Machine}
 use Rattle.rules.specs.Endings.{WrongMode, NotAssisted}
 use Rattle.rules.specs.Steps.{Steps, _>>=_, _>>_, stopIf}
@@ -17,7 +17,10 @@ use Rattle.rules.specs.StoreThenMask.{And, Or, storeThen}
 use Rattle.rules.specs.SetStorageKey.{setStorageKey}
 use Rattle.rules.specs.InsertStorageKey.{insertStorageKey}
 use Rattle.rules.specs.ResetReferenceBit.{resetReferenceBit}
-use Rattle.rules.specs.Attempt.{isAssisted, admitted, instruction, program, reading}
+use Rattle.rules.specs.Attempt.{admitted, instruction, program, reading}
+use Rattle.rules.specs.Theorems.Answers.{table, listed}
+use Rattle.rules.specs.Theorems.Operations.{assistedCode}
+use Rattle.rules.proofs.Theorems.Operations.{each, table-as-by-code}
 use Rattle.rules.proofs.Within.{Came, run-came, within-more}
 use Rattle.rules.proofs.Fits.{Stops, stops, Completes, completes-more, Fits}
 use Rattle.rules.proofs.Fits.SetSystemMask.{setSystemMask-fits}
@@ -29,41 +32,36 @@ use Rattle.rules.proofs.Fits.ResetReferenceBit.{resetReferenceBit-fits}
 
 -- ---- the seven
 
-pub either-true : (a b : Bool) → (a || b) ≡ true → (a ≡ true) ⊎ (b ≡ true)
-either-true true b h = inl refl
-either-true false b h = inr h
+-- any other has the endings that 0 has
+as-other : (op : ℕ) → assistedCode op ≡ false → table op ≡ table 0
+as-other op h =
+    let g = neither-true _ (eqb op 0xb6) h in
+    let f = neither-true _ (eqb op 0xb213) (g .0) in
+    let e = neither-true _ (eqb op 0xad) (f .0) in
+    let d = neither-true _ (eqb op 0xac) (e .0) in
+    let c = neither-true _ (eqb op 0x80) (d .0) in
+    let b = neither-true (eqb op 0x08) (eqb op 0x09) (c .0) in
+    simp (b .0, b .1, c .1, d .1, e .1, f .1, g .1)
 
-neither : (a b : Bool) → (a || b) ≡ false → (a ≡ false) × (b ≡ false)
-neither true b h = absurd (true≢false h)
-neither false b h = (refl, h)
+none-of-seven : (op : ℕ) → assistedCode op ≡ false → Stops op NotAssisted
+none-of-seven op h = stops (ap (λ t. listed t 13 0) (as-other op h)) refl refl
 
--- what has P at each of the seven has it at an assisted operation code
-each : (P : ℕ → Type 0) → P 0x80 → P 0xb6 → P 0xac → P 0xad → P 0x08 → P 0x09 → P 0xb213 → (op : ℕ)
-    → isAssisted op ≡ true → P op
-each P a b c d e f g op h =
-    let at : (code : ℕ) → P code → eqb op code ≡ true → P op = λ code p t. subst P (sym (eqb-true op code t)) p in
-    let or : (b : Bool) (code : ℕ) → P code → (b ≡ true → P op) → (b || eqb op code) ≡ true → P op =
-    λ b code p first t. ⊎-elim first (at code p) (either-true b _ t) in
-    or _ 0xb213 g (or _ 0x09 f (or _ 0x08 e (or _ 0xad d (or _ 0xac c (or _ 0xb6 b (at 0x80 a)))))) h
+-- and does not complete
+pub completed-assisted : (op : ℕ) → listed (table op) 0 0 ≡ true → assistedCode op ≡ true
+completed-assisted op h = go (assistedCode op) refl
+  where
+    go : (b : Bool) → assistedCode op ≡ b → b ≡ true
+    go true e = refl
+    go false e = absurd (true≢false (sym h ∙ ap (λ t. listed t 0 0) (as-other op e)))
 
-none-of-seven : (op : ℕ) → isAssisted op ≡ false → Stops op NotAssisted
-none-of-seven op h =
-    let g = neither _ (eqb op 0xb213) h in
-    let f = neither _ (eqb op 0x09) (g .0) in
-    let e = neither _ (eqb op 0x08) (f .0) in
-    let d = neither _ (eqb op 0xad) (e .0) in
-    let c = neither _ (eqb op 0xac) (d .0) in
-    let b = neither (eqb op 0x80) (eqb op 0xb6) (c .0) in
-    stops (rw (b .0, b .1, c .1, d .1, e .1, f .1, g .1) refl) refl refl
-
-wrong-mode : (op : ℕ) → isAssisted op ≡ true → Stops op WrongMode
+wrong-mode : (op : ℕ) → assistedCode op ≡ true → Stops op WrongMode
 wrong-mode =
     each (λ op. Stops op WrongMode) (stops refl refl refl) (stops refl refl refl) (stops refl refl refl)
     (stops refl refl refl) (stops refl refl refl) (stops refl refl refl) (stops refl refl refl)
 
 -- ---- the instruction at an operation code that is decided
 
-module _ (c : Call) (h : isAssisted (operation c) ≡ true) where
+module _ (c : Call) (h : assistedCode (operation c) ≡ true) where
   at : (op : ℕ) (p : Steps Completion) (n : ℕ) → n ≤ 85 → Fits op c p n → eqb (operation c) op ≡ true
       → Fits (operation c) c p 85
   at op p n l f e =
@@ -77,16 +75,16 @@ module _ (c : Call) (h : isAssisted (operation c) ≡ true) where
     λ e1. (
       at 0xb6 (storeControl c) 85 (omega arith) (storeControl-fits c),
       λ e2. (
-        at 0xac (storeThen And c) 11 (omega arith) (storeThen-fits 0xac (maskTable refl refl) And c),
+        at 0xac (storeThen And c) 11 (omega arith) (storeThen-fits 0xac (maskTable refl) And c),
         λ e3. (
-          at 0xad (storeThen Or c) 11 (omega arith) (storeThen-fits 0xad (maskTable refl refl) Or c),
+          at 0xad (storeThen Or c) 11 (omega arith) (storeThen-fits 0xad (maskTable refl) Or c),
           λ e4. (
             at 0x08 (setStorageKey c) 8 (omega arith) (setStorageKey-fits c),
             λ e5. (
               at 0x09 (insertStorageKey c) 8 (omega arith) (insertStorageKey-fits c),
               λ e6.
                   at 0xb213 (resetReferenceBit c) 12 (omega arith) (resetReferenceBit-fits c)
-                  (simp (e1, e2, e3, e4, e5, e6) at h),
+                  (simp (e1, e2, e3, e4, e5, e6, or-false) at h),
             ),
           ),
         ),
@@ -97,22 +95,23 @@ module _ (c : Call) (h : isAssisted (operation c) ≡ true) where
 -- whatever the sizes
 pub attempt-fits : (bytes keys : ℕ) (c : Call) → Fits (operation c) c (program bytes keys c) 85
 unfolding _>>=_ stopIf admitted
-attempt-fits bytes keys c = (
-  λ t. stops refl refl refl,
-  λ t. (
-    λ t. stops refl refl refl,
-    λ t. (
+attempt-fits bytes keys c =
+    let code = sym (table-as-by-code c .assisted) in (
       λ t. stops refl refl refl,
       λ t. (
-        λ t. none-of-seven (operation c) (not-true _ t),
+        λ t. stops refl refl refl,
         λ t. (
-          λ w. wrong-mode (operation c) (not-false _ t),
-          λ w. instruction-fits c (not-false _ t),
+          λ t. stops refl refl refl,
+          λ t. (
+            λ t. none-of-seven (operation c) (code ∙ not-true _ t),
+            λ t. (
+              λ w. wrong-mode (operation c) (code ∙ not-false _ t),
+              λ w. instruction-fits c (code ∙ not-false _ t),
+            ),
+          ),
         ),
       ),
-    ),
-  ),
-)
+    )
 
 pub reading-came : (m : Machine) (c : Call)
     → let op = operation c in

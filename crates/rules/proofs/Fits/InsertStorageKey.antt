@@ -8,10 +8,11 @@ use lib.ListN.{length, getD, set}
 use lib.Dec.{ltb}
 use lib.Seq.{set-out, set-set, getD-set-same}
 use borrow.Author.Tests.{ltb-true, ltb-false}
+use Rattle.operations.specs.Operations.{lengthOf}
 use Rattle.rules.specs.Bits.{bits, word}
 use Rattle.rules.specs.Guest.{Guest, advance, withByte}
 use Rattle.rules.specs.Endings.{FieldMissing}
-use Rattle.rules.specs.Call.{Call, r1}
+use Rattle.rules.specs.Call.{Call, operationByte, r1}
 use Rattle.rules.specs.SwapTables.{FoundPage, places, assistsKeys, segmentTable, findPage}
 use Rattle.rules.specs.InsertStorageKey.{insertKey, insertBlockKey, insertStorageKey}
 use Rattle.rules.proofs.Computing.{fetching}
@@ -64,10 +65,10 @@ twice l r byte = go (ltb r (length l)) refl
         let past : length l ≤ r = ltb-false r (length l) e in
         ap (λ s. set s r (joined (getD s r 0) 0)) (set-out l r x past)
 
-advanced : (c : Call) (byte : ℕ) → Advanced 0x09 c (advance (withByte (c .guest) (r1 c) byte) 2)
+advanced : (c : Call) (byte : ℕ) → Advanced 0x09 c (advance (withByte (c .guest) (r1 c) byte) (lengthOf (operationByte c)))
 advanced c byte =
     let g = c .guest in
-    ap (λ l. record { psw = advance g 2 .psw; general = l; cr0 = g .cr0; cr1 = g .cr1; cr6 = g .cr6 })
+    ap (λ l. record { psw = advance g (lengthOf (operationByte c)) .psw; general = l; cr0 = g .cr0; cr1 = g .cr1; cr6 = g .cr6 })
     (twice (g .general) (r1 c) byte)
 
 -- ---- the instruction

@@ -3,12 +3,13 @@ use Prim.Native.Nat.{ℕ, _+_, _-_, _*_, _/_, _%_, _^_, _≤_, _<_}
 use native.Mathlib.Omega.{arith}
 use mathlib.Core.Path.{_≡_, refl, sym, ap, _∙_}
 use mathlib.Core.List.{[]}
+use Rattle.operations.specs.Operations.{lengthOf}
 use Rattle.rules.specs.Bits.{bits}
 use Rattle.rules.specs.Machine.{_⊕_}
 use Rattle.rules.specs.Guest.{instructionAddress, assistsControl, effective, advance, withCode}
 use Rattle.rules.specs.Steps.{Steps, branch, _>>=_}
 use Rattle.rules.specs.Access.{secondHalfword}
-use Rattle.rules.specs.Call.{Call, Completion}
+use Rattle.rules.specs.Call.{Call, operationByte, Completion}
 use Rattle.rules.specs.SwapTables.{FoundPage, places, segmentTable, findPage}
 use Rattle.rules.specs.ResetReferenceBit.{storeReset, resetBlockKey, resetReferenceBit}
 use Rattle.rules.proofs.Computing.{fetching}
@@ -55,48 +56,50 @@ recode : (left code right new : ℕ) → code < 4 → right < 2 ^ 44
     → recoded (psw left code right) new ≡ psw left (bits 2 0 1 new) right
 recode left code right new h k = let e = codeIn left code right h k in omega arith
 
--- and the address moved on
-abbrev moved : (p : ℕ) → ℕ
-moved p = p - bits 64 40 63 p + (bits 64 40 63 p ⊕ 4)
-
 beside : (x right a b : ℕ) → a ≤ right → x + right - a + b ≡ x + (right - a + b)
 beside x right a b h = omega arith
 
-move : (left code right : ℕ) → code < 4 → right < 2 ^ 44
-    → moved (psw left code right) ≡ psw left code (moved right)
-move left code right h k =
-    let e : bits 64 40 63 (psw left code right) ≡ bits 64 40 63 right = omega arith in
-    ap (λ a. psw left code right - a + (a ⊕ 4)) e
-    ∙ beside (left * 2 ^ 46 + code * 2 ^ 44) right (bits 64 40 63 right) (bits 64 40 63 right ⊕ 4) (omega arith)
+-- and the address moved on by n
+module _ (n : ℕ) where
+  abbrev moved : (p : ℕ) → ℕ
+  moved p = p - bits 64 40 63 p + (bits 64 40 63 p ⊕ n)
 
-moved-right : (right : ℕ) → right < 2 ^ 44 → moved right < 2 ^ 44
-moved-right right h = omega arith
+  move : (left code right : ℕ) → code < 4 → right < 2 ^ 44
+      → moved (psw left code right) ≡ psw left code (moved right)
+  move left code right h k =
+      let e : bits 64 40 63 (psw left code right) ≡ bits 64 40 63 right = omega arith in
+      ap (λ a. psw left code right - a + (a ⊕ n)) e
+      ∙ beside (left * 2 ^ 46 + code * 2 ^ 44) right (bits 64 40 63 right) (bits 64 40 63 right ⊕ n) (omega arith)
 
--- whatever code there was, it is gone
-forgets : (left code right : ℕ) → code < 4 → right < 2 ^ 44
-    → recoded (moved (psw left code right)) 0 ≡ psw left 0 (moved right)
-forgets left code right h k =
-    ap (λ p. recoded p 0) (move left code right h k)
-    ∙ recode left code (moved right) 0 h (moved-right right k)
+  moved-right : (right : ℕ) → right < 2 ^ 44 → moved right < 2 ^ 44
+  moved-right right h = omega arith
 
-same : (p code : ℕ) → recoded (moved (recoded p code)) 0 ≡ recoded (moved p) 0
-same p code =
-    let left = p / 2 ^ 46 in
-    let old = bits 64 18 19 p in
-    let right = p % 2 ^ 44 in
-    let h : old < 4 = omega arith in
-    let k : right < 2 ^ 44 = omega arith in
-    let new = bits 2 0 1 code in
-    ap (λ q. recoded (moved (recoded q code)) 0) (split p)
-    ∙ ap (λ q. recoded (moved q) 0) (recode left old right code h k)
-    ∙ forgets left new right (omega arith) k
-    ∙ sym (forgets left old right h k)
-    ∙ ap (λ q. recoded (moved q) 0) (sym (split p))
+  -- whatever code there was, it is gone
+  forgets : (left code right : ℕ) → code < 4 → right < 2 ^ 44
+      → recoded (moved (psw left code right)) 0 ≡ psw left 0 (moved right)
+  forgets left code right h k =
+      ap (λ p. recoded p 0) (move left code right h k)
+      ∙ recode left code (moved right) 0 h (moved-right right k)
 
-advanced : (c : Call) (code : ℕ) → Advanced 0xb213 c (advance (withCode (c .guest) code) 4)
+  same : (p code : ℕ) → recoded (moved (recoded p code)) 0 ≡ recoded (moved p) 0
+  same p code =
+      let left = p / 2 ^ 46 in
+      let old = bits 64 18 19 p in
+      let right = p % 2 ^ 44 in
+      let h : old < 4 = omega arith in
+      let k : right < 2 ^ 44 = omega arith in
+      let new = bits 2 0 1 code in
+      ap (λ q. recoded (moved (recoded q code)) 0) (split p)
+      ∙ ap (λ q. recoded (moved q) 0) (recode left old right code h k)
+      ∙ forgets left new right (omega arith) k
+      ∙ sym (forgets left old right h k)
+      ∙ ap (λ q. recoded (moved q) 0) (sym (split p))
+
+advanced : (c : Call) (code : ℕ) → Advanced 0xb213 c (advance (withCode (c .guest) code) (lengthOf (operationByte c)))
 advanced c code =
     let g = c .guest in
-    ap (λ p. record { psw = p; general = g .general; cr0 = g .cr0; cr1 = g .cr1; cr6 = g .cr6 }) (same (g .psw) code)
+    ap (λ p. record { psw = p; general = g .general; cr0 = g .cr0; cr1 = g .cr1; cr6 = g .cr6 })
+    (same (lengthOf (operationByte c)) (g .psw) code)
 
 -- ---- the instruction
 

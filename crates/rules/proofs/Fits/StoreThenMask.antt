@@ -10,7 +10,7 @@ use Rattle.rules.specs.Steps.{_>>=_, fetchBytes, stopIf, endingAs}
 use Rattle.rules.specs.Access.{secondHalfword}
 use Rattle.rules.specs.Call.{Call, completeAs}
 use Rattle.rules.specs.StoreThenMask.{MaskChange, byteOperand, storeThen}
-use Rattle.rules.specs.Theorems.Answers.{table, listed, Possible, instructionLength, withoutResult}
+use Rattle.rules.specs.Theorems.Answers.{table, listed, Possible}
 use Rattle.rules.proofs.Within.{Within, Any, within-then, within-endingAs}
 use Rattle.rules.proofs.Fits.{
   Stops,
@@ -32,7 +32,6 @@ pub record MaskTable (op : ℕ) : Type 0 where
   pub refused : Stops op refuse
   pub handed : Stops op Expanded
   pub missing : Stops op (FieldMissing 2) × Stops op (FieldMissing 3)
-  pub length : instructionLength op ≡ 4
 
 byteOperand-within : (op : ℕ) → MaskTable op → (g : Guest) → Within (Stops op) Any (byteOperand g) 7
 unfolding byteOperand
@@ -59,7 +58,7 @@ storeThen-fits op t change c =
                 fits-then op c (byteOperand g) _ 7 2 9 (omega arith) (byteOperand-within op t g)
                 (λ real. record {
                   possible = t .completed;
-                  advanced = ap (λ n. withoutResult op c (advance g n)) (sym (t .length));
+                  advanced = refl;
                   written = omega arith;
                 }),
           ),
@@ -68,8 +67,8 @@ storeThen-fits op t change c =
     )
 
 -- for an operation code whose table is STNSM's
-pub maskTable : {op : ℕ} → table op ≡ table 0xac → instructionLength op ≡ 4 → MaskTable op
-maskTable {op} e l =
+pub maskTable : {op : ℕ} → table op ≡ table 0xac → MaskTable op
+maskTable {op} e =
     let same : (number code : ℕ) → listed (table op) number code ≡ listed (table 0xac) number code =
     λ number code. ap (λ t. listed t number code) e in
     record {
@@ -78,5 +77,4 @@ maskTable {op} e l =
       refused = stops (same 1 2) refl refl;
       handed = stops (same 2 0) refl refl;
       missing = (stops (same 3 2) refl refl, stops (same 3 3) refl refl);
-      length = l;
     }

@@ -161,8 +161,8 @@ returns-5 c =
     let n = number (fetched at) in
     let e = counted n in
     completes (here .start .args .call) (c .completed .result) (put .store-words .last .0)
-    (put .store-words .last .1 .0) 4 _ (here .runs)
-    (c .completed .ensures ∙ ap (completion (here .start .args .call) 4 (here .count))
+    (put .store-words .last .1 .0) _ (here .runs)
+    (c .completed .ensures ∙ ap (completion (here .start .args .call) (here .count))
     (sym (stored n (to .result .words) (from .result .words) (to .ensures .1) (from .ensures .1))
     ∙ ap (λ n. length (wordStores (take n (to .result .words)) (take n (from .result .words)))) e))
     (simp e at (put .store-words .ensures))

@@ -54,7 +54,7 @@ returns-3 c =
     let put = c .before .before .before .before .before in
     let found = put .before .before .before .before in
     let here = given (target (found .before .before)) (found .target .given .1) in
-    completes (here .start .args .call) (c .completed .result) (put .put-mask .last .0) (put .put-mask .last .1 .0) 4 _
+    completes (here .start .args .call) (c .completed .result) (put .put-mask .last .0) (put .put-mask .last .1 .0) _
     (here .runs) (c .completed .ensures) (put .put-mask .ensures)
 
 pub set-system-mask-spec : {M : Type 1} → statement M

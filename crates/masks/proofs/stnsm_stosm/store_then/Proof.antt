@@ -180,7 +180,7 @@ returns-6 c =
     let at = address (old .before .before .before .before) in
     let new = store (addressIn (at .before .before .field .given .0 .0)) 1
     (newMask (a .change) (maskIn (old .before .before .halfword .given .0 .0)) (immediate (a .call))) in
-    completes (a .call) (c .completed .result) (put .put-mask .last .0) (put .put-mask .last .1 .0) 4 _ (here .runs)
+    completes (a .call) (c .completed .result) (put .put-mask .last .0) (put .put-mask .last .1 .0) _ (here .runs)
     (c .completed .ensures)
     (simp (changed mask, at .address-in .ensures) at (put .put-mask .ensures)
     ∙ ap (λ m. perform m new)

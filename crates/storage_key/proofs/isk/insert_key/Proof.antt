@@ -62,23 +62,24 @@ returns-2 c =
 same-length-3 : tie.Need-same-length-3
 unfolding insertKey field vpsw
 same-length-3 c =
-    let call = c .before .before .before .before .before .before .before .before .before .before .before in
+    let call = c .before .before .before .before .before .before .before .before .before .before .before .before in
     call .control-halfword .kept .1 .0 ∙ reached-keys (vpsw call)
 
 returns-3 : tie.Need-returns-3
 unfolding insertKey field vpsw halfword
 returns-3 c =
-    let at = c .before .before .before .before .before .before in
+    let at = c .before .before .before .before .before .before .before in
     let call = at .before .before .before .before .before in
     let here = given (halfword (at .before .before)) (at .halfword .given .1) in
     let a = here .start .args in
     let key = insertedKey (extendedIn (at .halfword .given .0 .0)) (virtualKey (a .page)) (a .marks) in
-    let inserted = c .before .before .before in
-    completes-as (a .call .guest) (withByte (a .call .guest) (r1 (a .call)) key) (c .completed-as .result)
-    (a .storage .now) (call .control-halfword .last .1 .0) 2 [] (here .runs)
+    let inserted = c .before .before .before .before in
+    completes-as (a .call) (a .call .guest) (withByte (a .call .guest) (r1 (a .call)) key) (c .completed-as .result)
+    (a .storage .now) (call .control-halfword .last .1 .0) [] (here .runs)
     (simp (
-      c .before .with-byte .ensures,
-      c .before .before .r1 .ensures,
+      c .before .length .ensures,
+      c .before .before .with-byte .ensures,
+      c .before .before .before .r1 .ensures,
       inserted .inserted-key .ensures,
       inserted .before .virtual-key .ensures,
     ) at (c .completed-as .ensures))
@@ -104,6 +105,7 @@ insert-key-spec =
     (λ c κs. search needs)
     (λ c. search needs)
     returns-2
+    (λ c κs. search needs)
     (λ c κs. search needs)
     (λ c κs. search needs)
     (λ c κs. search needs)

@@ -47,14 +47,14 @@ old c =
 same-length-3 : tie.Need-same-length-3
 unfolding resetBlockKey consulted old
 same-length-3 c =
-    let put = c .before .before .before .before .before .before .before in
+    let put = c .before .before .before .before .before .before .before .before in
     let set = put .before .before .before .before .before .before in
     put .store-word .kept .1 .0 ∙ set .set-key .kept .0 ∙ reached-keys (old set)
 
 returns-2 : tie.Need-returns-2
 unfolding storeReset resetBlockKey consulted old
 returns-2 c =
-    let put = c .before .before .before .before .before .before .before in
+    let put = c .before .before .before .before .before .before .before .before in
     let set = put .before .before .before .before .before .before in
     let here = old set in
     let a = here .start .args in
@@ -62,9 +62,13 @@ returns-2 c =
     let swap = swapWith (a .page) (unreferred (virtualKey (a .page))) marks in
     let first = simp (set .before .unreferred .ensures) at (set .set-key .ensures (a .storage .now)) in
     let second = simp (put .before .reset-word .ensures) at (put .store-word .ensures) in
-    completes-as (a .call .guest) (withCode (a .call .guest) (bitOr marks (bits 8 5 6 (virtualKey (a .page)))))
-    (c .completed-as .result) (put .store-word .last .0) (put .store-word .last .1 .0) 4 _ (here .runs)
-    (simp (c .before .with-code .ensures, c .before .before .marks-with .ensures) at (c .completed-as .ensures))
+    completes-as (a .call) (a .call .guest) (withCode (a .call .guest) (bitOr marks (bits 8 5 6 (virtualKey (a .page)))))
+    (c .completed-as .result) (put .store-word .last .0) (put .store-word .last .1 .0) _ (here .runs)
+    (simp (
+      c .before .length .ensures,
+      c .before .before .with-code .ensures,
+      c .before .before .before .marks-with .ensures,
+    ) at (c .completed-as .ensures))
     (second ∙ ap (λ m. perform m (store (a .page .place) 4 swap)) first)
 
 pub reset-block-key-spec : {M : Type 1} → statement M
@@ -77,6 +81,7 @@ reset-block-key-spec =
     (λ c κs. search needs)
     (λ c. search needs)
     returns
+    (λ c κs. search needs)
     (λ c κs. search needs)
     (λ c κs. search needs)
     (λ c κs. search needs)

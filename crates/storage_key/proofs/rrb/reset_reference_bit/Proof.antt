@@ -93,20 +93,24 @@ page c = let at = c .before in found (way (at .before .before)) (at .found .give
 same-length-8 : tie.Need-same-length-8
 unfolding resetReferenceBit table second halfword way page
 same-length-8 c =
-    let put = c .before .before .before .before .before .before .before in
+    let put = c .before .before .before .before .before .before .before .before in
     put .store-word .kept .1 .0 ∙ reached-keys (page (put .before .before .before .before .before))
 
 returns-4 : tie.Need-returns-4
 unfolding resetReferenceBit storeReset table second halfword way page
 returns-4 c =
-    let put = c .before .before .before .before .before .before .before in
+    let put = c .before .before .before .before .before .before .before .before in
     let test = put .before .before .before .before in
     let here = page (test .before) in
     let g = here .start .args .call .guest in
     let p = test .before .before .found .given .0 .0 in
-    completes-as g (withCode g (bitOr 0 (bits 8 5 6 (virtualKey p)))) (c .completed-as .result)
-    (put .store-word .last .0) (put .store-word .last .1 .0) 4 _ (chosen _ _ _ (here .runs) (test .if1 .taken))
-    (simp (c .before .with-code .ensures, c .before .before .marks-with .ensures) at (c .completed-as .ensures))
+    completes-as (here .start .args .call) g (withCode g (bitOr 0 (bits 8 5 6 (virtualKey p)))) (c .completed-as .result)
+    (put .store-word .last .0) (put .store-word .last .1 .0) _ (chosen _ _ _ (here .runs) (test .if1 .taken))
+    (simp (
+      c .before .length .ensures,
+      c .before .before .with-code .ensures,
+      c .before .before .before .marks-with .ensures,
+    ) at (c .completed-as .ensures))
     (simp (put .before .reset-word .ensures) at (put .store-word .ensures))
 
 -- it is valid: steps 12 and 13
@@ -157,6 +161,7 @@ reset-reference-bit-spec =
     (λ c. search needs)
     same-length-6
     returns-3
+    (λ c κs. search needs)
     (λ c κs. search needs)
     (λ c κs. search needs)
     (λ c κs. search needs)

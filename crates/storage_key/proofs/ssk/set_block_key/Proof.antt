@@ -49,7 +49,7 @@ returns-2 c =
     let first = simp (set .before .new-key .ensures, set .before .before .key-word .ensures) at
     (set .set-key .ensures (a .storage .now)) in
     let second = simp (put .before .swap-word .ensures) at (put .store-word .ensures) in
-    completes (a .call) (c .completed .result) (put .store-word .last .0) (put .store-word .last .1 .0) 2 _
+    completes (a .call) (c .completed .result) (put .store-word .last .0) (put .store-word .last .1 .0) _
     (here .runs) (c .completed .ensures) (second ∙ ap (λ m. perform m (store (a .page .place) 4 swap)) first)
 
 pub set-block-key-spec : {M : Type 1} → statement M

@@ -75,7 +75,7 @@ returns-3 c =
     let test = put .before .before .before .before in
     let here = page (test .before) in
     completes (here .start .args .call) (c .completed .result) (put .store-word .last .0) (put .store-word .last .1 .0)
-    2 _ (chosen _ _ _ (here .runs) (test .if1 .taken)) (c .completed .ensures)
+    _ (chosen _ _ _ (here .runs) (test .if1 .taken)) (c .completed .ensures)
     (simp (put .before .swap-word .ensures) at (put .store-word .ensures))
 
 -- it is valid: steps 11 and 12

@@ -1,0 +1,3 @@
+-- Laws of tests and tables.
+pub mod Junctions
+pub mod Table

@@ -1,10 +1,9 @@
 // The tests before the instruction: endings 10, 11, 12, 13 and 9, in that order.
 ghost use mathlib.Core.Path.{_≡_};
+ghost use Rattle.operations.specs.Operations.{beginsAssisted};
+ghost use Rattle.rules.specs.Call.{operationByte};
 ghost use Rattle.rules.specs.Attempt.{wrongStorage, wrongKeys, oddAddress, isAssisted, wrongMode};
-ghost use Rattle.storage.specs.Answers.{answer};
-use rules::Answer;
 use rules::Call;
-use rules::Ending;
 use rules::Guest;
 
 // 10: not a multiple of 2,048, or outside 2,048 to 16,777,216.
@@ -29,11 +28,11 @@ pub(crate) fn is_odd(guest: Guest) -> bool
 }
 
 // 13, where it is not: the table marks the operation byte, and B2 has 13 as its second byte.
-pub(crate) fn is_assisted(call: Call) -> bool
+pub(crate) fn is_assisted(call: Call, marked: bool) -> bool
+    requires { ⌜ marked ≡ beginsAssisted (operationByte call) ⌝ }
     ensures { λ r. ⌜ r ≡ isAssisted call ⌝ }
 {
-    let byte = call.operation_byte();
-    operations::begins_assisted(byte) & ((byte != 0xb2) | (call.operation() == 0xb213))
+    marked & ((call.operation_byte() != 0xb2) | (call.operation() == 0xb213))
 }
 
 // 9: real PSW bit 12 or bit 15 is zero.
@@ -41,15 +40,4 @@ pub(crate) fn is_wrong_mode(guest: Guest) -> bool
     ensures { λ r. ⌜ r ≡ wrongMode guest ⌝ }
 {
     !guest.extended_control() | !guest.problem_state()
-}
-
-// One of these endings, before any reference; the record is handed back as it was.
-pub(crate) fn not_admitted(ending: Ending, guest: Guest) -> Answer
-    ensures { λ r. ⌜ r ≡ answer ending 0 guest ⌝ }
-{
-    Answer {
-        ending,
-        count: 0,
-        guest,
-    }
 }

@@ -4,22 +4,24 @@ ghost use mathlib.Core.Path.{_≡_};
 ghost use mathlib.Core.Bool.{_||_};
 ghost use lib.Dec.{eqb};
 ghost use lib.ListN.{length};
+ghost use Rattle.operations.specs.Operations.{beginsAssisted};
 ghost use Rattle.rules.specs.Endings.{numbers};
+ghost use Rattle.rules.specs.Call.{operationByte};
 ghost use Rattle.rules.specs.Attempt.{instruction, program};
 ghost use Rattle.storage.specs.Answers.{machine, seen, finished, finish};
-ghost use Rattle.assist.specs.Attempted.{attempted};
+ghost use Rattle.assist.specs.Attempted.{answerOf, attempted};
 ghost use Rattle.assist.specs.Changes.{changeBy};
 use crate::admission::is_assisted;
 use crate::admission::is_odd;
 use crate::admission::is_wrong_keys;
 use crate::admission::is_wrong_mode;
 use crate::admission::is_wrong_storage;
-use crate::admission::not_admitted;
 use rules::Answer;
 use rules::Call;
 use rules::Ending;
 use rules::Guest;
 use rules::MaskChange;
+use storage::Concluded;
 
 mod admission;
 
@@ -40,10 +42,10 @@ fn mask_change(operation: u32) -> MaskChange
 }
 
 // The instruction, by its operation code. Each is called at one place, so that the compiler puts it there.
-fn instruction(storage: &mut [u8], keys: &mut [u8], call: Call) -> Answer
+fn instruction(storage: &mut [u8], keys: &mut [u8], call: Call) -> Concluded
     ensures { λ r. ⌜
         finished r (now (storage .exit)) (now (keys .exit))
-        ≡ finish (call .guest) (seen (instruction call) (machine (now (storage .entry)) (now (keys .entry))))
+        ≡ finish (seen (instruction call) (machine (now (storage .entry)) (now (keys .entry))))
         ⌝ }
 {
     let operation = call.operation();
@@ -65,32 +67,55 @@ fn instruction(storage: &mut [u8], keys: &mut [u8], call: Call) -> Answer
     storage_key::reset_reference_bit(storage, keys, call)
 }
 
-// The same after the tests 10, 11, 12, 13 and 9.
-fn program(storage: &mut [u8], keys: &mut [u8], call: Call) -> Answer
+// The same after the tests 10, 11, 12, 13 and 9, given what the table says of the operation byte.
+fn program(storage: &mut [u8], keys: &mut [u8], call: Call, marked: bool) -> Concluded
+    requires { ⌜ marked ≡ beginsAssisted (operationByte call) ⌝ }
     ensures { λ r. ⌜
         finished r (now (storage .exit)) (now (keys .exit))
-        ≡ finish (call .guest)
+        ≡ finish
         (seen (program (length (now (storage .entry))) (length (now (keys .entry))) call)
         (machine (now (storage .entry)) (now (keys .entry))))
         ⌝ }
 {
     let guest = call.guest;
     if is_wrong_storage(storage.len()) {
-        return not_admitted(Ending::WrongStorageSize, guest);
+        return Concluded::Ended(Ending::WrongStorageSize, 0);
     }
     if is_wrong_keys(storage.len(), keys.len()) {
-        return not_admitted(Ending::WrongKeyCount, guest);
+        return Concluded::Ended(Ending::WrongKeyCount, 0);
     }
     if is_odd(guest) {
-        return not_admitted(Ending::OddInstructionAddress, guest);
+        return Concluded::Ended(Ending::OddInstructionAddress, 0);
     }
-    if !is_assisted(call) {
-        return not_admitted(Ending::NotAssisted, guest);
+    if !is_assisted(call, marked) {
+        return Concluded::Ended(Ending::NotAssisted, 0);
     }
     if is_wrong_mode(guest) {
-        return not_admitted(Ending::WrongMode, guest);
+        return Concluded::Ended(Ending::WrongMode, 0);
     }
     instruction(storage, keys, call)
+}
+
+// The answer: completion hands the record back changed and moved on by so many bytes, any other ending as it was.
+fn answer_of(concluded: Concluded, call: Call, length: u32) -> Answer
+    ensures { λ r. ⌜ r ≡ answerOf concluded call length ⌝ }
+{
+    let guest = call.guest;
+    match concluded {
+        Concluded::Complete(change, count) => {
+            let changed = call.changed(change);
+            Answer {
+                ending: Ending::Completed,
+                count,
+                guest: changed.advance(length),
+            }
+        }
+        Concluded::Ended(ending, count) => Answer {
+            ending,
+            count,
+            guest,
+        },
+    }
 }
 
 // One attempt. The storage and keys of the caller are changed in place, and only on completion; the record is handed
@@ -121,13 +146,12 @@ pub fn attempt(
         ≡ attempted (now (storage .entry)) (now (keys .entry)) guest first installed .after .keys
         ⌝ }
 {
-    program(
-        storage,
-        keys,
-        Call {
-            guest,
-            first,
-            installed,
-        },
-    )
+    let call = Call {
+        guest,
+        first,
+        installed,
+    };
+    let operation = operations::operation_of(call.operation_byte());
+    let concluded = program(storage, keys, call, operation.assisted);
+    answer_of(concluded, call, operation.length)
 }

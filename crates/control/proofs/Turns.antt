@@ -8,14 +8,13 @@ use mathlib.Core.List.{List, [], _∷_, _++_}
 use lib.ListN.{length, take, set, length-set}
 use lib.Seq.{take-suc-set}
 use Rattle.rules.specs.declared.endings.Ending.{Ending}
-use Rattle.rules.specs.declared.guest.Guest.{Guest}
-use Rattle.rules.specs.declared.answer.Answer.{Answer}
 use Rattle.rules.specs.Machine.{Machine}
 use Rattle.rules.specs.Steps.{Steps, _>>=_}
 use Rattle.rules.specs.Call.{Completion}
 use Rattle.rules.specs.StoreControl.{gather}
 use Rattle.storage.specs.declared.steps.Stepped.{Stepped}
 use Rattle.storage.specs.declared.steps.Stepped.the-variants.{Value, Stopped}
+use Rattle.storage.specs.declared.answers.Concluded.{Concluded}
 use Rattle.storage.specs.Answers.{machine, went, over, told, seen, later, finished, finish, ending}
 use Rattle.storage.proofs.Laws.{Runs, begin, more, goes, ends, settles, ended-by}
 use Rattle.storage.proofs.Stages.{Reached, Asked, reached, ended}
@@ -118,10 +117,10 @@ module _ {S A : Type 0} {entry : S → Machine} {stage : S → Steps A} where
       (goes (a .step) (a .next) (a .runs)
       (ap (λ q. gatheredBy q (a .words) (a .storage) (a .keys)) (sym e) ∙ a .so))
 
-pub ended-without : {S : Type 0} {entry : S → Machine} {stage : S → Steps Completion} (g : Guest) (x : Answer)
-    (a : AskedWords entry stage) {e : Ending} {c : ℕ} → x ≡ ending (a .answer) g → a .answer ≡ Stopped e c
-    → finished x (a .storage) (a .keys) ≡ finish g (seen (stage (a .start)) (entry (a .start)))
-ended-without g x a f e =
-    ended-by g x (a .storage) (a .keys) (a .answer) f e
+pub ended-without : {S : Type 0} {entry : S → Machine} {stage : S → Steps Completion} (x : Concluded)
+    (a : AskedWords entry stage) {e : Ending} {c : ℕ} → x ≡ ending (a .answer) → a .answer ≡ Stopped e c
+    → finished x (a .storage) (a .keys) ≡ finish (seen (stage (a .start)) (entry (a .start)))
+ended-without x a f e =
+    ended-by x (a .storage) (a .keys) (a .answer) f e
     (ends (a .step) (a .next) (a .runs)
     (ap (λ q. gatheredBy q (a .words) (a .storage) (a .keys)) (sym e) ∙ a .so))

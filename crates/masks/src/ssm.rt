@@ -8,11 +8,11 @@ use crate::bits::goes_up;
 use crate::bits::is_extended;
 use crate::bits::mask_in;
 use crate::bits::put_mask;
-use rules::Answer;
 use rules::Call;
 use rules::Ending;
 use rules::Exception;
 use rules::Guest;
+use storage::Concluded;
 use storage::Stepped;
 use storage::Width;
 
@@ -105,24 +105,24 @@ fn mask_target(storage: &[u8], keys: &mut [u8], call: Call, new: u32) -> Stepped
     Stepped::Value(at, count)
 }
 
-pub fn set_system_mask(storage: &mut [u8], keys: &mut [u8], call: Call) -> Answer
+pub fn set_system_mask(storage: &mut [u8], keys: &mut [u8], call: Call) -> Concluded
     ensures { λ r. ⌜
         finished r (now (storage .exit)) (now (keys .exit))
-        ≡ finish (call .guest) (seen (setSystemMask call) (machine (now (storage .entry)) (now (keys .entry))))
+        ≡ finish (seen (setSystemMask call) (machine (now (storage .entry)) (now (keys .entry))))
         ⌝ }
 {
     let guest = call.guest;
     // 1 to 6
     let operand = mask_operand(storage, keys, guest);
     let Stepped::Value(new, count_6) = operand else {
-        return operand.ending(guest);
+        return operand.ending();
     };
     // 7 to 9
     let target = mask_target(storage, keys, call, new).after(count_6);
     let Stepped::Value(at, count) = target else {
-        return target.ending(guest);
+        return target.ending();
     };
     // 10
     put_mask(storage, keys, at, new);
-    storage::completed(call, count, 1)
+    storage::completed(count, 1)
 }

@@ -8,12 +8,12 @@ use crate::bits::goes_up;
 use crate::bits::is_extended;
 use crate::bits::mask_in;
 use crate::bits::put_mask;
-use rules::Answer;
 use rules::Call;
 use rules::Ending;
 use rules::Exception;
 use rules::Guest;
 use rules::MaskChange;
+use storage::Concluded;
 use storage::Stepped;
 
 // Step 4: the new mask.
@@ -64,28 +64,28 @@ fn byte_operand(storage: &[u8], keys: &mut [u8], guest: Guest) -> Stepped
     access::store_test(storage, keys, guest, guest.effective(halfword)).after(count)
 }
 
-pub fn store_then(storage: &mut [u8], keys: &mut [u8], change: MaskChange, call: Call) -> Answer
+pub fn store_then(storage: &mut [u8], keys: &mut [u8], change: MaskChange, call: Call) -> Concluded
     ensures { λ r. ⌜
         finished r (now (storage .exit)) (now (keys .exit))
-        ≡ finish (call .guest) (seen (storeThen change call) (machine (now (storage .entry)) (now (keys .entry))))
+        ≡ finish (seen (storeThen change call) (machine (now (storage .entry)) (now (keys .entry))))
         ⌝ }
 {
     let guest = call.guest;
     // 1
     if !guest.assists_control() {
         let refuse = Ending::Interruption(Exception::PrivilegedOperation);
-        return Stepped::Stopped(refuse, 0).ending(guest);
+        return Stepped::Stopped(refuse, 0).ending();
     }
     // 2
     let field = access::micblok_word(storage, keys, 2, access::MICVPSW, guest);
     let Stepped::Value(vpsw, count_2) = field else {
-        return field.ending(guest);
+        return field.ending();
     };
     // 3
     let at = access::address_in(vpsw);
     let halfword = access::control_halfword(storage, keys, 3, at).after(count_2);
     let Stepped::Value(first, count_3) = halfword else {
-        return halfword.ending(guest);
+        return halfword.ending();
     };
     // 4
     let old = mask_in(first);
@@ -97,15 +97,15 @@ pub fn store_then(storage: &mut [u8], keys: &mut [u8], change: MaskChange, call:
         old,
         new,
     ) {
-        return Stepped::Stopped(call.expanded(), count_3).ending(guest);
+        return Stepped::Stopped(call.expanded(), count_3).ending();
     }
     // 5 and 6
     let operand = byte_operand(storage, keys, guest).after(count_3);
     let Stepped::Value(real, count) = operand else {
-        return operand.ending(guest);
+        return operand.ending();
     };
     // 7
     storage::store_byte(storage, keys, real, old);
     put_mask(storage, keys, at, new);
-    storage::completed(call, count, 2)
+    storage::completed(count, 2)
 }

@@ -7,7 +7,7 @@ use mathlib.Core.List.{List, [], _∷_}
 use lib.Dec.{eqb, ltb}
 use lib.ListN.{length, getD}
 use borrow.Author.Tests.{eqb-true}
-use Rattle.operations.specs.Operations.{lengthOf, beginsAssisted, entryOf, fromByte, byRule}
+use Rattle.operations.specs.Operations.{beginsAssisted, Operation, operationOf, entryOf, fromByte, byRule}
 use Rattle.operations.proofs.Junctions.{both-true}
 
 from : (xs : List ℕ) (b : ℕ) → fromByte b xs ≡ true → (k : ℕ) → k < length xs → getD xs k 0 ≡ entryOf (b + k)
@@ -23,18 +23,19 @@ each-by-rule xs t b h =
     let tests = both-true (eqb (length xs) 256) (fromByte 0 xs) t in
     from xs 0 (tests .1) b (subst (λ n. b < n) (sym (eqb-true _ _ (tests .0))) h) ∙ ap entryOf (zero-add b)
 
--- the length, and the mark
+-- an entry taken apart
+abbrev pub apart : (entry : ℕ) → Operation
+apart entry = record { length = entry % 128; assisted = eqb (entry / 128) 1 }
+
 parts : (short middle mark : Bool)
     → let n : ℕ = cond short 2 (cond middle 4 6) in
-    let entry : ℕ = n + cond mark 0x80 0 in
-    (entry % 128 ≡ n) × (eqb (entry / 128) 1 ≡ mark)
-parts true m true = (refl, refl)
-parts true m false = (refl, refl)
-parts false true true = (refl, refl)
-parts false true false = (refl, refl)
-parts false false true = (refl, refl)
-parts false false false = (refl, refl)
+    apart (n + cond mark 0x80 0) ≡ record { length = n; assisted = mark }
+parts true m true = refl
+parts true m false = refl
+parts false true true = refl
+parts false true false = refl
+parts false false true = refl
+parts false false false = refl
 
-pub entry-parts : (byte : ℕ)
-    → (entryOf byte % 128 ≡ lengthOf byte) × (eqb (entryOf byte / 128) 1 ≡ beginsAssisted byte)
-entry-parts b = parts (ltb b 0x40) (ltb b 0xc0) (beginsAssisted b)
+pub entry-apart : (byte : ℕ) → apart (entryOf byte) ≡ operationOf byte
+entry-apart b = parts (ltb b 0x40) (ltb b 0xc0) (beginsAssisted b)

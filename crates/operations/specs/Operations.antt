@@ -4,6 +4,8 @@ use mathlib.Core.Bool.{Bool, true, cond, _&&_, _||_}
 use mathlib.Core.List.{List, [], _∷_}
 use lib.Dec.{eqb, ltb}
 use lib.ListN.{length}
+-- what the first byte says of an instruction: its length, and whether it can be assisted
+pub use Rattle.operations.specs.declared.Operation.{Operation}
 
 -- the instruction's length in bytes
 abbrev pub lengthOf : (byte : ℕ) → ℕ
@@ -12,6 +14,10 @@ lengthOf b = cond (ltb b 0x40) 2 (cond (ltb b 0xc0) 4 6)
 -- whether the byte begins an assisted instruction; B2 does with one second byte alone
 abbrev pub beginsAssisted : (byte : ℕ) → Bool
 beginsAssisted b = eqb b 0x08 || eqb b 0x09 || eqb b 0x80 || eqb b 0xac || eqb b 0xad || eqb b 0xb2 || eqb b 0xb6
+
+-- both
+abbrev pub operationOf : (byte : ℕ) → Operation
+operationOf b = record { length = lengthOf b; assisted = beginsAssisted b }
 
 -- ---- the table
 

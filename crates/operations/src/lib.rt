@@ -1,20 +1,23 @@
 // The operation byte, the first byte of an instruction: document 02, R-5.
 ghost use mathlib.Core.Path.{_≡_};
-ghost use Rattle.operations.specs.Operations.{lengthOf, beginsAssisted};
+ghost use Rattle.operations.specs.Operations.{operationOf};
 use crate::entries::entry;
 
 mod entries;
 
-// The instruction's length in bytes.
-pub fn length_of(byte: u8) -> u32
-    ensures { λ r. ⌜ r ≡ lengthOf byte ⌝ }
-{
-    (entry(byte) % 128) as u32
+// What the operation byte says of an instruction: its length in bytes, and whether an assisted one can begin so.
+pub struct Operation {
+    pub length: u32,
+    pub assisted: bool,
 }
 
-// Whether the byte begins an assisted instruction. (B2 does with one second byte alone.)
-pub fn begins_assisted(byte: u8) -> bool
-    ensures { λ r. ⌜ r ≡ beginsAssisted byte ⌝ }
+// Looked up in the table.
+pub fn operation_of(byte: u8) -> Operation
+    ensures { λ r. ⌜ r ≡ operationOf byte ⌝ }
 {
-    entry(byte) / 128 == 1
+    let found = entry(byte);
+    Operation {
+        length: (found % 128) as u32,
+        assisted: found / 128 == 1,
+    }
 }

@@ -11,9 +11,8 @@ use Rattle.rules.specs.Machine.{Machine, addresses}
 use Rattle.rules.specs.References.{Reference, fetched, consulted, wrote, keySet}
 use Rattle.rules.specs.Recording.{referred, changed, notedAll}
 use Rattle.rules.specs.Writes.{Write, store, setKey, entry, put, perform, performAll}
-use Rattle.rules.specs.Guest.{Guest}
 use Rattle.rules.specs.Run.{Outcome, ended, gave}
-use Rattle.rules.specs.Call.{Completion}
+use Rattle.rules.specs.Call.{Call, Completion}
 use Rattle.rules.specs.Attempt.{conclude}
 use Rattle.rules.specs.Theorems.ReferenceBits.{SameButReference, isReferred, anyIn, touches, touched}
 use Rattle.rules.specs.Theorems.Isolation.{All, Part, WholeBlocks, Keeps}
@@ -103,13 +102,13 @@ performed-at m (w ∷ ws) k =
     ∙ ap (λ n. onWrites n k ws (getD (perform m w .keys) k 0)) (perform-length m w)
     ∙ ap (onWrites (length (m .keys)) k ws) (perform-at m w k)
 
-module _ (m : Machine) (g : Guest) (rs : List Reference) where
-  pub concluded-length : (o : Outcome Completion) → length (conclude m g rs o .after .keys) ≡ length (m .keys)
+module _ (m : Machine) (call : Call) (rs : List Reference) where
+  pub concluded-length : (o : Outcome Completion) → length (conclude m call rs o .after .keys) ≡ length (m .keys)
   concluded-length (ended e) = notedAll-length m rs
   concluded-length (gave c) = performed-length (notedAll m rs) (c .writes) ∙ notedAll-length m rs
 
   pub concluded-at : (o : Outcome Completion) (k : ℕ)
-      → getD (conclude m g rs o .after .keys) k 0 ≡ effect (length (m .keys)) k rs o (getD (m .keys) k 0)
+      → getD (conclude m call rs o .after .keys) k 0 ≡ effect (length (m .keys)) k rs o (getD (m .keys) k 0)
   concluded-at (ended e) k = notedAll-at m rs k
   concluded-at (gave c) k =
       performed-at (notedAll m rs) (c .writes) k
@@ -208,11 +207,11 @@ module _ (p q : Part) (wp : WholeBlocks p) (wq : WholeBlocks q) (size k : ℕ) w
       (acts-then false (touches k r) (onPut size k w) (onKey size k r) (acts-put w (h .0)) (acts-entry r (h .0)))
       (acts-writes ws (h .1))
 
-  pub acts-effect : (m : Machine) (g : Guest) (rs : List Reference) (o : Outcome Completion)
-      → All (Keeps p q) (conclude m g rs o .references)
-      → Acts p q size k (touched k (conclude m g rs o .references)) (effect size k rs o)
-  acts-effect m g rs (ended e) h = acts-all rs h
-  acts-effect m g rs (gave c) h =
+  pub acts-effect : (m : Machine) (call : Call) (rs : List Reference) (o : Outcome Completion)
+      → All (Keeps p q) (conclude m call rs o .references)
+      → Acts p q size k (touched k (conclude m call rs o .references)) (effect size k rs o)
+  acts-effect m call rs (ended e) h = acts-all rs h
+  acts-effect m call rs (gave c) h =
       let made = map entry (c .writes) in
       subst (λ t. Acts p q size k t (effect size k rs (gave c))) (sym (touched-append k rs made))
       (acts-then (touched k rs) (touched k made) (onAll size k rs) (onWrites size k (c .writes))

@@ -31,7 +31,7 @@ use Rattle.rules.specs.Endings.{
 }
 use Rattle.rules.specs.Steps.{Steps, _>>=_, fetchBytes, consultKey, stopIf}
 use Rattle.rules.specs.Access.{realOf, keyTest, access, storeTest, logicalFetch}
-use Rattle.rules.specs.Call.{Call, operationByte, expanded, Completion}
+use Rattle.rules.specs.Call.{Call, operationByte, expanded, changed, Completion}
 use Rattle.rules.specs.Theorems.Answers.{table, listed, Possible, withoutResult}
 use Rattle.rules.proofs.Computing.{walking}
 use Rattle.rules.proofs.Within.{Within, Any, within-then}
@@ -114,18 +114,20 @@ logicalFetch-within E g a n x =
 
 -- ---- instructions
 
--- a record that differs from the call's by the instruction's length and result alone
+-- a record that, moved on, differs from the call's by the instruction's result alone
 abbrev pub Advanced : (op : ℕ) → Call → Guest → Type 0
-Advanced op c g = withoutResult op c g ≡ withoutResult op c (advance (c .guest) (lengthOf (operationByte c)))
+Advanced op c g =
+    let n = lengthOf (operationByte c) in
+    withoutResult op c (advance g n) ≡ withoutResult op c (advance (c .guest) n)
 
--- a completion: the record moved on, and no more writes than references left
+-- a completion: nothing changed but the result, and no more writes than references left
 pub record Completes (op : ℕ) (c : Call) (k : Completion) (left : ℕ) : Type 0 where
   pub possible : Possible op Completed
-  pub advanced : Advanced op c (k .guest)
+  pub advanced : Advanced op c (changed c (k .change))
   pub written : length (k .writes) ≤ left
 
 pub completes : {op : ℕ} {c : Call} {k : Completion} {left : ℕ} → listed (table op) 0 0 ≡ true
-    → Advanced op c (k .guest) → length (k .writes) ≤ left → Completes op c k left
+    → Advanced op c (changed c (k .change)) → length (k .writes) ≤ left → Completes op c k left
 completes l a w = record { possible = possible l refl; advanced = a; written = w }
 
 pub completes-more : (op : ℕ) (c : Call) (k : Completion) (i j : ℕ) → i ≤ j → Completes op c k i → Completes op c k j

@@ -10,9 +10,8 @@ use Rattle.rules.specs.Machine.{Machine, addresses}
 use Rattle.rules.specs.References.{Reference}
 use Rattle.rules.specs.Recording.{notedAll}
 use Rattle.rules.specs.Writes.{Write, store, setKey, entry}
-use Rattle.rules.specs.Guest.{Guest}
 use Rattle.rules.specs.Run.{Outcome, ended, gave}
-use Rattle.rules.specs.Call.{Completion}
+use Rattle.rules.specs.Call.{Call, Completion}
 use Rattle.rules.specs.Attempt.{conclude}
 use Rattle.rules.specs.Theorems.ReferenceBits.{SameButReference, isReferred}
 use Rattle.rules.specs.Theorems.Isolation.{All, Part, Keeps}
@@ -40,10 +39,10 @@ abbrev pub storagePuts : Outcome Completion → List Put
 storagePuts (ended e) = []
 storagePuts (gave c) = inStorage (c .writes)
 
-pub concluded-storage : (m : Machine) (g : Guest) (rs : List Reference) (o : Outcome Completion)
-    → conclude m g rs o .after .storage ≡ puts (m .storage) (storagePuts o)
-concluded-storage m g rs (ended e) = notedAll-storage m rs
-concluded-storage m g rs (gave c) =
+pub concluded-storage : (m : Machine) (call : Call) (rs : List Reference) (o : Outcome Completion)
+    → conclude m call rs o .after .storage ≡ puts (m .storage) (storagePuts o)
+concluded-storage m call rs (ended e) = notedAll-storage m rs
+concluded-storage m call rs (gave c) =
     performed-storage (notedAll m rs) (c .writes) ∙ ap (λ s. puts s (inStorage (c .writes))) (notedAll-storage m rs)
 
 module _ (p q : Part) where
@@ -63,10 +62,10 @@ module _ (p q : Part) where
       (writes-bytes ws (h .1))
   writes-bytes (setKey b v ∷ ws) h = writes-bytes ws (h .1)
 
-  pub put-bytes : (m : Machine) (g : Guest) (rs : List Reference) (o : Outcome Completion)
-      → All (Keeps p q) (conclude m g rs o .references) → All (λ x. Bytes (x .place)) (storagePuts o)
-  put-bytes m g rs (ended e) h = tt
-  put-bytes m g rs (gave c) h = writes-bytes (c .writes) (all-right (Keeps p q) rs (map entry (c .writes)) h)
+  pub put-bytes : (m : Machine) (call : Call) (rs : List Reference) (o : Outcome Completion)
+      → All (Keeps p q) (conclude m call rs o .references) → All (λ x. Bytes (x .place)) (storagePuts o)
+  put-bytes m call rs (ended e) h = tt
+  put-bytes m call rs (gave c) h = writes-bytes (c .writes) (all-right (Keeps p q) rs (map entry (c .writes)) h)
 
 -- ---- the machines. a: the one guest's alone; b: the other's alone; c: both guests'
 

@@ -5,7 +5,7 @@ use mathlib.Core.Bool.{Bool, not, _&&_, _||_}
 use mathlib.Core.List.{List, _++_, map}
 use lib.ListN.{length}
 use lib.Dec.{eqb, ltb}
-use Rattle.operations.specs.Operations.{beginsAssisted}
+use Rattle.operations.specs.Operations.{lengthOf, beginsAssisted}
 use Rattle.rules.specs.Endings.{
   Ending,
   Completed,
@@ -16,14 +16,14 @@ use Rattle.rules.specs.Endings.{
   NotAssisted,
 }
 pub use Rattle.rules.specs.declared.answer.Answer.{Answer}
-use Rattle.rules.specs.Guest.{Guest, instructionAddress, extendedControl, problemState}
+use Rattle.rules.specs.Guest.{Guest, instructionAddress, extendedControl, problemState, advance}
 use Rattle.rules.specs.Machine.{Machine}
 use Rattle.rules.specs.Writes.{performAll, entry}
 use Rattle.rules.specs.References.{Reference}
 use Rattle.rules.specs.Recording.{notedAll}
 use Rattle.rules.specs.Steps.{Steps, branch, _>>=_, _>>_, stopIf}
 use Rattle.rules.specs.Run.{Outcome, ended, gave, Run, run}
-use Rattle.rules.specs.Call.{Call, operationByte, operation, Completion}
+use Rattle.rules.specs.Call.{Call, operationByte, operation, RecordChange, changed, Completion}
 use Rattle.rules.specs.SetSystemMask.{setSystemMask}
 use Rattle.rules.specs.StoreControl.{storeControl}
 use Rattle.rules.specs.StoreThenMask.{storeThenAnd, storeThenOr}
@@ -95,14 +95,18 @@ answered e g rs m = record {
   after = m;
 }
 
+-- completion moves the instruction address on by the instruction's length
+abbrev pub completed : Call → RecordChange → Guest
+completed c change = advance (changed c change) (lengthOf (operationByte c))
+
 -- what was recorded by reading stays; completion makes the writes, and every other ending none
-abbrev pub conclude : Machine → Guest → List Reference → Outcome Completion → Result
-conclude m g rs (ended e) = answered e g rs (notedAll m rs)
-conclude m g rs (gave c) =
-    answered Completed (c .guest) (rs ++ map entry (c .writes)) (performAll (notedAll m rs) (c .writes))
+abbrev pub conclude : Machine → Call → List Reference → Outcome Completion → Result
+conclude m c rs (ended e) = answered e (c .guest) rs (notedAll m rs)
+conclude m c rs (gave k) =
+    answered Completed (completed c (k .change)) (rs ++ map entry (k .writes)) (performAll (notedAll m rs) (k .writes))
 
 abbrev pub reading : Machine → Call → Run Completion
 reading m c = run (program (length (m .storage)) (length (m .keys)) c) m
 
 abbrev pub attempt : Machine → Call → Result
-attempt m c = conclude m (c .guest) (reading m c .references) (reading m c .outcome)
+attempt m c = conclude m c (reading m c .references) (reading m c .outcome)

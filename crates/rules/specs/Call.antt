@@ -4,14 +4,19 @@ use Prim.Native.Nat.{ℕ}
 use mathlib.Core.Bool.{cond, _&&_}
 use mathlib.Core.List.{List}
 use lib.Dec.{eqb}
-use Rattle.operations.specs.Operations.{lengthOf}
-use Rattle.rules.specs.Guest.{Guest, advance}
+use Rattle.rules.specs.Guest.{Guest, withByte, withCode}
 use Rattle.rules.specs.Bits.{bit, halfword}
 use Rattle.rules.specs.Writes.{Write}
 use Rattle.rules.specs.Endings.{Ending, Expanded, refuse}
 use Rattle.rules.specs.Steps.{Steps, done}
 -- the record, the first halfword, and whether the expanded assist is installed
 pub use Rattle.rules.specs.declared.call.Call.{Call}
+pub use Rattle.rules.specs.declared.record_change.RecordChange.{RecordChange}
+pub use Rattle.rules.specs.declared.record_change.RecordChange.the-variants.{
+  Unchanged,
+  RegisterByte,
+  ConditionCode,
+}
 
 abbrev pub operationByte : Call → ℕ
 operationByte c = halfword 0 7 (c .first)
@@ -39,15 +44,20 @@ immediate c = halfword 8 15 (c .first)
 abbrev pub expanded : Call → Ending
 expanded c = cond (c .installed && bit 32 6 (c .guest .cr6)) Expanded refuse
 
--- the record handed back, and the writes in order
+-- the record with what an instruction changes in it, besides the instruction address
+abbrev pub changed : Call → RecordChange → Guest
+changed c Unchanged = c .guest
+changed c (RegisterByte byte) = withByte (c .guest) (r1 c) byte
+changed c (ConditionCode code) = withCode (c .guest) code
+
+-- what is changed in the record, and the writes in order
 pub record Completion : Type 0 where
-  pub guest : Guest
+  pub change : RecordChange
   pub writes : List Write
 
--- completed: this record, its instruction address moved on by the instruction's length, and the writes to be made
-unfoldable pub completeAs : Call → Guest → List Write → Steps Completion
-completeAs c g writes = done (record { guest = advance g (lengthOf (operationByte c)); writes = writes })
+unfoldable pub completeAs : RecordChange → List Write → Steps Completion
+completeAs change writes = done (record { change = change; writes = writes })
 
--- completed with nothing else changed in the record
-abbrev pub complete : Call → List Write → Steps Completion
-complete c = completeAs c (c .guest)
+-- completed with nothing but the instruction address changed in the record
+abbrev pub complete : List Write → Steps Completion
+complete = completeAs Unchanged

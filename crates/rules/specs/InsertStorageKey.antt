@@ -8,11 +8,10 @@ use lib.Bits.{bitOr}
 use Rattle.rules.specs.Endings.{FieldMissing}
 use Rattle.rules.specs.Bits.{bits, word}
 use Rattle.rules.specs.References.{Whole}
-use Rattle.rules.specs.Guest.{withByte}
 use Rattle.rules.specs.Steps.{Steps, branch, _>>=_, consultKey}
 use Rattle.rules.specs.ControlFields.{controlHalfword, micvpsw, addressIn}
 use Rattle.rules.specs.Masks.{extendedIn}
-use Rattle.rules.specs.Call.{Call, r1, Completion, completeAs}
+use Rattle.rules.specs.Call.{Call, RegisterByte, Completion, completeAs}
 use Rattle.rules.specs.SwapTables.{
   FoundPage,
   places,
@@ -33,7 +32,7 @@ unfoldable pub insertKey : Call → FoundPage → (tried marks : ℕ) → Steps 
 insertKey c page tried marks = do
   vpsw ← micvpsw (tried + 1) (c .guest)  -- 12
   first ← controlHalfword (tried + 2) (addressIn vpsw)  -- 13
-  completeAs c (withByte (c .guest) (r1 c) (insertedKey (extendedIn first) (virtualKey page) marks)) []  -- 14
+  completeAs (RegisterByte (insertedKey (extendedIn first) (virtualKey page) marks)) []  -- 14
 
 -- step 11: the key of a valid page's block
 unfoldable pub insertBlockKey : Call → FoundPage → Steps Completion

@@ -27,7 +27,7 @@ keyWord c = register (c .guest) (r1 c)
 -- step 12, with which both ways of step 11 end: R1 bits 24-30 and a zero in the swap word, after the keys set before it
 unfoldable pub storeSwapWord : Call → FoundPage → List Write → (marks : ℕ) → Steps Completion
 storeSwapWord c page keys marks =
-    complete c (keys ++ store (page .place) 4 (swapWith page (word 24 30 (keyWord c) * 2) marks) ∷ [])
+    complete (keys ++ store (page .place) 4 (swapWith page (word 24 30 (keyWord c) * 2) marks) ∷ [])
 
 -- step 11: the key of a valid page's block. R1 bits 24-28, then zeros; bit 7 as found
 abbrev pub newKey : (key old : ℕ) → ℕ

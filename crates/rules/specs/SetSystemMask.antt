@@ -50,4 +50,4 @@ unfoldable pub setSystemMask : Call → Steps Completion
 setSystemMask c = do
   new ← maskOperand (c .guest)
   at ← maskTarget c new
-  complete c (store at 1 new ∷ [])  -- 10
+  complete (store at 1 new ∷ [])  -- 10

@@ -59,4 +59,4 @@ storeControl c = do
   let n = registerCount (r1 c) (r3 c)
   values ← virtualRegisters ecblok (r1 c) n  -- 5: the registers, then the tests, and only then the stores
   reals ← operandWords (c .guest) address n
-  complete c (wordStores reals values)
+  complete (wordStores reals values)

@@ -44,7 +44,7 @@ storeThen change c = do
   let new = newMask change old (immediate c)
   stopIf (needsExpanded change (extendedIn first) (pending vpsw) old new) (expanded c)  -- 4
   real ← byteOperand (c .guest)
-  complete c (store real 1 old ∷ store (addressIn vpsw) 1 new ∷ [])  -- 7: the old mask, then the new one
+  complete (store real 1 old ∷ store (addressIn vpsw) 1 new ∷ [])  -- 7: the old mask, then the new one
 
 abbrev pub storeThenAnd : Call → Steps Completion
 storeThenAnd = storeThen And

@@ -1,10 +1,10 @@
 // A call: the guest's record, the first halfword of the instruction, and whether the expanded assist is installed.
 ghost use mathlib.Core.Path.{_≡_};
-ghost use Rattle.operations.specs.Operations.{lengthOf};
-ghost use Rattle.rules.specs.Call.{operationByte, operation, r1, r2, immediate, expanded};
+ghost use Rattle.rules.specs.Call.{operationByte, operation, r1, r2, immediate, expanded, changed};
 use crate::Ending;
 use crate::Exception;
 use crate::Guest;
+use crate::RecordChange;
 
 pub struct Call {
     pub guest: Guest,
@@ -17,13 +17,6 @@ impl Call {
         ensures { λ r. ⌜ r ≡ operationByte self ⌝ }
     {
         (self.first / 256 % 256) as u8
-    }
-
-    // The instruction's length in bytes.
-    pub fn length(self) -> u32
-        ensures { λ r. ⌜ r ≡ lengthOf (operationByte self) ⌝ }
-    {
-        operations::length_of(self.operation_byte())
     }
 
     // The operation code: a byte, or two where the first is B2.
@@ -54,6 +47,17 @@ impl Call {
         ensures { λ r. ⌜ r ≡ immediate self ⌝ }
     {
         (self.first % 256) as u32
+    }
+
+    // The record with what an instruction changes in it.
+    pub fn changed(self, change: RecordChange) -> Guest
+        ensures { λ r. ⌜ r ≡ changed self change ⌝ }
+    {
+        match change {
+            RecordChange::Unchanged => self.guest,
+            RecordChange::RegisterByte(byte) => self.guest.with_byte(self.r1(), byte),
+            RecordChange::ConditionCode(code) => self.guest.with_code(code),
+        }
     }
 
     // Document 01's "expanded": handed over where the expanded assist is installed and switched on by bit 6 of control

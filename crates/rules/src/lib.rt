@@ -7,6 +7,7 @@ mod endings;
 mod guest;
 mod keys;
 mod mask_change;
+mod record_change;
 mod tables;
 
 pub use addresses::difference;
@@ -18,6 +19,7 @@ pub use endings::Exception;
 pub use guest::Guest;
 pub use keys::KeyUse;
 pub use mask_change::MaskChange;
+pub use record_change::RecordChange;
 pub use tables::FieldNumbers;
 pub use tables::Format;
 pub use tables::FoundPage;

@@ -5,18 +5,14 @@ use mathlib.Core.Path.{_≡_, refl, sym, ap, _∙_}
 use mathlib.Core.Bool.{Bool, true, false}
 use mathlib.Core.List.{List}
 use lib.ListN.{length}
-use Rattle.operations.specs.Operations.{lengthOf}
 use Rattle.rules.specs.declared.endings.Ending.{Ending}
-use Rattle.rules.specs.declared.endings.Ending.the-variants.{Completed}
-use Rattle.rules.specs.declared.guest.Guest.{Guest}
-use Rattle.rules.specs.declared.call.Call.{Call}
-use Rattle.rules.specs.declared.answer.Answer.{Answer}
-use Rattle.rules.specs.Guest.{advance}
+use Rattle.rules.specs.declared.record_change.RecordChange.{RecordChange}
+use Rattle.rules.specs.declared.record_change.RecordChange.the-variants.{Unchanged}
 use Rattle.rules.specs.Endings.{refuse}
 use Rattle.rules.specs.Machine.{Machine}
 use Rattle.rules.specs.Writes.{Write, performAll}
 use Rattle.rules.specs.Steps.{Steps, done, branch, _>>=_, stopIf, endingAs}
-use Rattle.rules.specs.Call.{operationByte, Completion, completeAs, complete}
+use Rattle.rules.specs.Call.{Completion, completeAs, complete}
 use Rattle.rules.specs.Recording.{notedAll}
 use Rattle.rules.specs.Run.{Outcome, ended, gave, run, View, view}
 use Rattle.rules.proofs.Recording.{notedAll-length}
@@ -32,9 +28,11 @@ use Rattle.storage.specs.Answers.{
   seen,
   later,
   refused,
+  Concluded,
+  Complete,
+  Ended,
   Finished,
   finished,
-  answer,
   finish,
   ending,
   completionAs,
@@ -192,60 +190,55 @@ last-after {m′ = m′} {n = n} p h r r′ s ks e f = waited r r′ n s ks p m�
 
 -- ---- an instruction's answer
 
-module _ {v : View Completion} (g : Guest) (x : Answer) (s ks : List ℕ) where
+module _ {v : View Completion} (x : Concluded) (s ks : List ℕ) where
   -- a step stopped
-  pub ended-by : (r : Stepped) {e : Ending} {c : ℕ} → x ≡ ending r g → r ≡ Stopped e c → over e c (machine s ks) ≡ v
-      → finished x s ks ≡ finish g v
-  ended-by r a b f = ap (λ y. finished y s ks) (a ∙ ap (λ r. ending r g) b) ∙ ap (finish g) f
+  pub ended-by : (r : Stepped) {e : Ending} {c : ℕ} → x ≡ ending r → r ≡ Stopped e c → over e c (machine s ks) ≡ v
+      → finished x s ks ≡ finish v
+  ended-by r a b f = ap (λ y. finished y s ks) (a ∙ ap ending b) ∙ ap finish f
 
   -- a test stopped
-  pub stopped-by : {e : Ending} {c : ℕ} → x ≡ answer e c g → over e c (machine s ks) ≡ v
-      → finished x s ks ≡ finish g v
-  stopped-by a f = ap (λ y. finished y s ks) a ∙ ap (finish g) f
+  pub stopped-by : {e : Ending} {c : ℕ} → x ≡ Ended e c → over e c (machine s ks) ≡ v → finished x s ks ≡ finish v
+  stopped-by a f = ap (λ y. finished y s ks) a ∙ ap finish f
 
--- the writes were made, and the record is this one, moved on
-pub completes-as : {m m′ : Machine} {t : Steps Completion} {n : ℕ} (c : Call) (g h : Guest) (x : Answer) (s ks : List ℕ)
-    (ws : List Write) → Runs m t n m′ (completeAs c h ws) → x ≡ completionAs h (lengthOf (operationByte c)) n (length ws)
-    → machine s ks ≡ performAll m′ ws → finished x s ks ≡ finish g (seen t m)
+-- the writes were made, and this is changed in the record
+pub completes-as : {m m′ : Machine} {t : Steps Completion} {n : ℕ} (change : RecordChange) (x : Concluded)
+    (s ks : List ℕ) (ws : List Write) → Runs m t n m′ (completeAs change ws) → x ≡ completionAs change n (length ws)
+    → machine s ks ≡ performAll m′ ws → finished x s ks ≡ finish (seen t m)
 unfolding completeAs
-completes-as {m} {m′} {t} {n} c g h x s ks ws runs a b =
-    let bytes = lengthOf (operationByte c) in
+completes-as {m} {m′} {t} {n} change x s ks ws runs a b =
     ap (λ y. finished y s ks) a
-    ∙ ap (λ l. record { answer = completionAs h bytes n (length ws); after = l }) b
-    ∙ ap (finish g) (settles (record { guest = advance h bytes; writes = ws }) runs)
+    ∙ ap (λ l. record { answer = completionAs change n (length ws); after = l }) b
+    ∙ ap finish (settles (record { change = change; writes = ws }) runs)
 
--- and where it is the call's own
-pub completes : {m m′ : Machine} {t : Steps Completion} {n : ℕ} (c : Call) (x : Answer) (s ks : List ℕ)
-    (ws : List Write) → Runs m t n m′ (complete c ws) → x ≡ completion c n (length ws)
-    → machine s ks ≡ performAll m′ ws → finished x s ks ≡ finish (c .guest) (seen t m)
-completes c = completes-as c (c .guest) (c .guest)
+-- and where that is nothing
+pub completes : {m m′ : Machine} {t : Steps Completion} {n : ℕ} (x : Concluded) (s ks : List ℕ) (ws : List Write)
+    → Runs m t n m′ (complete ws) → x ≡ completion n (length ws) → machine s ks ≡ performAll m′ ws
+    → finished x s ks ≡ finish (seen t m)
+completes = completes-as Unchanged
 
 -- a later stage's answer handed on
 abbrev deferred : ℕ → Finished → Finished
 deferred n f = record { answer = laterAnswer n (f .answer); after = f .after }
 
-finish-more : (n : ℕ) (g : Guest) (v : View Completion) → finish g (more n v) ≡ deferred n (finish g v)
-finish-more n g v = go (v .outcome) (v .count) (v .left)
+finish-more : (n : ℕ) (v : View Completion) → finish (more n v) ≡ deferred n (finish v)
+finish-more n v = go (v .outcome) (v .count) (v .left)
   where
-    go : (o : Outcome Completion) (k : ℕ) (l : Machine)
-        → let v : View Completion = record { outcome = o; count = k; left = l } in
-        finish g (more n v) ≡ deferred n (finish g v)
-    go (ended e) k l = refl
-    go (gave c) k l =
-        ap (λ z. record { answer = answer Completed z (c .guest); after = performAll l (c .writes) })
-        (let z : ((n + k) % 2 ^ 32 + length (c .writes)) % 2 ^ 32 ≡ (n + (k + length (c .writes)) % 2 ^ 32) % 2 ^ 32 =
+    go : (o : Outcome Completion) (i : ℕ) (l : Machine)
+        → let v : View Completion = record { outcome = o; count = i; left = l } in
+        finish (more n v) ≡ deferred n (finish v)
+    go (ended e) i l = refl
+    go (gave k) i l =
+        ap (λ z. record { answer = Complete (k .change) z; after = performAll l (k .writes) })
+        (let z : ((n + i) % 2 ^ 32 + length (k .writes)) % 2 ^ 32 ≡ (n + (i + length (k .writes)) % 2 ^ 32) % 2 ^ 32 =
         omega arith in z)
 
-pub finishes : {m m′ : Machine} {t u : Steps Completion} {n : ℕ} (g : Guest) (x y : Answer) (s ks : List ℕ)
-    → Runs m t n m′ u → y ≡ laterAnswer n x → finished x s ks ≡ finish g (seen u m′)
-    → finished y s ks ≡ finish g (seen t m)
-finishes {m} {m′} {t} {u} {n} g x y s ks h a f =
-    ap (λ y. finished y s ks) a
-    ∙ ap (deferred n) f
-    ∙ sym (finish-more n g (seen u m′))
-    ∙ ap (finish g) (sym (h .so))
+pub finishes : {m m′ : Machine} {t u : Steps Completion} {n : ℕ} (x y : Concluded) (s ks : List ℕ)
+    → Runs m t n m′ u → y ≡ laterAnswer n x → finished x s ks ≡ finish (seen u m′)
+    → finished y s ks ≡ finish (seen t m)
+finishes {m} {m′} {t} {u} {n} x y s ks h a f =
+    ap (λ y. finished y s ks) a ∙ ap (deferred n) f ∙ sym (finish-more n (seen u m′)) ∙ ap finish (sym (h .so))
 
 -- and one that goes on before any reference
-pub continues : {m m′ : Machine} {t u : Steps Completion} (g : Guest) (x : Answer) (s ks : List ℕ)
-    → Runs m t 0 m′ u → finished x s ks ≡ finish g (seen u m′) → finished x s ks ≡ finish g (seen t m)
-continues {m} {m′} {t} {u} g x s ks h f = f ∙ ap (finish g) (more-zero u m′ ∙ sym (h .so))
+pub continues : {m m′ : Machine} {t u : Steps Completion} (x : Concluded) (s ks : List ℕ) → Runs m t 0 m′ u
+    → finished x s ks ≡ finish (seen u m′) → finished x s ks ≡ finish (seen t m)
+continues {m} {m′} {t} {u} x s ks h f = f ∙ ap finish (more-zero u m′ ∙ sym (h .so))

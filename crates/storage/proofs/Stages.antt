@@ -15,8 +15,6 @@ use lib.ListN.{length}
 use Rattle.rules.specs.declared.endings.Ending.{Ending}
 use Rattle.rules.specs.Machine.{Machine}
 use Rattle.rules.specs.Steps.{Steps, _>>=_, stopIf}
-use Rattle.rules.specs.declared.guest.Guest.{Guest}
-use Rattle.rules.specs.declared.answer.Answer.{Answer}
 use Rattle.rules.specs.Call.{Completion}
 use Rattle.storage.specs.Answers.{
   Stepped,
@@ -27,9 +25,10 @@ use Rattle.storage.specs.Answers.{
   told,
   seen,
   later,
+  Concluded,
+  Ended,
   finished,
   finish,
-  answer,
   ending,
 }
 use Rattle.storage.proofs.Laws.{more, Runs, waited, goes, ends, pass, stops, runs-keys, stopped-by, ended-by}
@@ -147,13 +146,13 @@ module _ {S : Type 0} {entry : S → Machine} {stage : S → Steps ℕ} where
 
 -- ---- an instruction
 
-module _ {S : Type 0} {entry : S → Machine} {stage : S → Steps Completion} (g : Guest) (x : Answer) where
+module _ {S : Type 0} {entry : S → Machine} {stage : S → Steps Completion} (x : Concluded) where
   -- a step ended it
-  pub ended-with : (a : Asked entry stage) {e : Ending} {c : ℕ} → x ≡ ending (a .answer) g → a .answer ≡ Stopped e c
-      → finished x (a .storage) (a .keys) ≡ finish g (seen (stage (a .start)) (entry (a .start)))
-  ended-with a f e = ended-by g x (a .storage) (a .keys) (a .answer) f e (ended a e)
+  pub ended-with : (a : Asked entry stage) {e : Ending} {c : ℕ} → x ≡ ending (a .answer) → a .answer ≡ Stopped e c
+      → finished x (a .storage) (a .keys) ≡ finish (seen (stage (a .start)) (entry (a .start)))
+  ended-with a f e = ended-by x (a .storage) (a .keys) (a .answer) f e (ended a e)
 
   -- a test stopped it
-  pub stopped-with : (t : Tested entry stage) → x ≡ answer (t .ending) (t .count) g → t .flag ≡ true
-      → finished x (t .left .storage) (t .left .keys) ≡ finish g (seen (stage (t .start)) (entry (t .start)))
-  stopped-with t f e = stopped-by g x (t .left .storage) (t .left .keys) f (stopped t e)
+  pub stopped-with : (t : Tested entry stage) → x ≡ Ended (t .ending) (t .count) → t .flag ≡ true
+      → finished x (t .left .storage) (t .left .keys) ≡ finish (seen (stage (t .start)) (entry (t .start)))
+  stopped-with t f e = stopped-by x (t .left .storage) (t .left .keys) f (stopped t e)

@@ -3,22 +3,20 @@ use Prim.Native.Nat.{ℕ, _+_, _%_, _^_}
 use mathlib.Core.Path.{_≡_}
 use mathlib.Core.List.{List}
 use lib.ListN.{length}
-use Rattle.operations.specs.Operations.{lengthOf}
 use Rattle.rules.specs.declared.endings.Ending.{Ending}
-use Rattle.rules.specs.declared.endings.Ending.the-variants.{Completed}
-use Rattle.rules.specs.declared.guest.Guest.{Guest}
-use Rattle.rules.specs.declared.answer.Answer.{Answer}
-use Rattle.rules.specs.declared.call.Call.{Call}
+use Rattle.rules.specs.declared.record_change.RecordChange.{RecordChange}
+use Rattle.rules.specs.declared.record_change.RecordChange.the-variants.{Unchanged}
 use Rattle.rules.specs.Endings.{refuse}
-use Rattle.rules.specs.Guest.{advance}
 use Rattle.rules.specs.Machine.{Machine}
 use Rattle.rules.specs.Writes.{performAll}
 use Rattle.rules.specs.Steps.{Steps, fetchBytes}
 use Rattle.rules.specs.Run.{Outcome, ended, gave, View, view}
-use Rattle.rules.specs.Call.{operationByte, Completion}
+use Rattle.rules.specs.Call.{Completion}
 use Rattle.storage.specs.Items.{Item, Of, Missing}
 pub use Rattle.storage.specs.declared.steps.Stepped.{Stepped}
 pub use Rattle.storage.specs.declared.steps.Stepped.the-variants.{Value, Stopped}
+pub use Rattle.storage.specs.declared.answers.Concluded.{Concluded}
+pub use Rattle.storage.specs.declared.answers.Concluded.the-variants.{Complete, Ended}
 
 -- storage and keys, as a machine of the rules
 abbrev pub machine : (storage keys : List ℕ) → Machine
@@ -67,42 +65,39 @@ refused (Stopped e c) = Stopped refuse c
 -- ---- an instruction: its answer, and the machine afterwards
 
 pub record Finished : Type 0 where
-  pub answer : Answer
+  pub answer : Concluded
   pub after : Machine
 
 -- what the code answers, with the storage and keys that it leaves. An instruction's promise is that this is `finish` of
 -- what is seen of its reading program.
-abbrev pub finished : Answer → (storage keys : List ℕ) → Finished
+abbrev pub finished : Concluded → (storage keys : List ℕ) → Finished
 finished answer storage keys = record { answer = answer; after = machine storage keys }
 
-abbrev pub answer : Ending → (count : ℕ) → Guest → Answer
-answer e n g = record { ending = e; count = n; guest = g }
-
--- what `conclude` of the rules makes of a run, here of what is seen of it: completion makes the writes; every other
--- ending hands the record back as it was
-abbrev pub finish : Guest → View Completion → Finished
-finish g x = by (x .outcome) (x .count) (x .left)
+-- what `conclude` of the rules makes of a run, here of what is seen of it, and short of the record: completion makes the
+-- writes
+abbrev pub finish : View Completion → Finished
+finish x = by (x .outcome) (x .count) (x .left)
   where
     by : Outcome Completion → ℕ → Machine → Finished
-    by (ended e) n m = record { answer = answer e n g; after = m }
-    by (gave c) n m = record {
-      answer = answer Completed ((n + length (c .writes)) % 2 ^ 32) (c .guest);
-      after = performAll m (c .writes);
+    by (ended e) n m = record { answer = Ended e n; after = m }
+    by (gave k) n m = record {
+      answer = Complete (k .change) ((n + length (k .writes)) % 2 ^ 32);
+      after = performAll m (k .writes);
     }
 
 -- the answer where a step stopped (a value would complete nothing)
-abbrev pub ending : Stepped → Guest → Answer
-ending (Value v n) g = answer Completed n g
-ending (Stopped e n) g = answer e n g
+abbrev pub ending : Stepped → Concluded
+ending (Value v n) = Complete Unchanged n
+ending (Stopped e n) = Ended e n
 
--- the answer of a completion, whose record is moved on by so many bytes
-abbrev pub completionAs : Guest → (bytes reads writes : ℕ) → Answer
-completionAs g bytes reads writes = answer Completed ((reads + writes) % 2 ^ 32) (advance g bytes)
+-- the answer of a completion, with what it changes in the record; and where that is nothing
+abbrev pub completionAs : RecordChange → (reads writes : ℕ) → Concluded
+completionAs change reads writes = Complete change ((reads + writes) % 2 ^ 32)
 
--- and where it is the call's own record, moved on by the instruction's length
-abbrev pub completion : Call → (reads writes : ℕ) → Answer
-completion c = completionAs (c .guest) (lengthOf (operationByte c))
+abbrev pub completion : (reads writes : ℕ) → Concluded
+completion = completionAs Unchanged
 
 -- after n references more
-abbrev pub laterAnswer : (n : ℕ) → Answer → Answer
-laterAnswer n a = answer (a .ending) ((n + a .count) % 2 ^ 32) (a .guest)
+abbrev pub laterAnswer : (n : ℕ) → Concluded → Concluded
+laterAnswer n (Complete change c) = Complete change ((n + c) % 2 ^ 32)
+laterAnswer n (Ended e c) = Ended e ((n + c) % 2 ^ 32)

@@ -2,59 +2,49 @@
 ghost use mathlib.Core.Path.{_≡_};
 ghost use Rattle.storage.specs.Answers.{ending, completionAs, completion, laterAnswer};
 use crate::steps::Stepped;
-use rules::Answer;
-use rules::Call;
 use rules::Ending;
-use rules::Guest;
+use rules::RecordChange;
+
+// Completion, with what it changes in the guest's record, or another ending; each with the count of references.
+pub enum Concluded {
+    Complete(RecordChange, u32),
+    Ended(Ending, u32),
+}
 
 impl Stepped {
-    // A step that stopped ends the attempt; the record is handed back as it was. (No caller hands over a value.)
-    pub fn ending(self, guest: Guest) -> Answer
-        ensures { λ r. ⌜ r ≡ ending self guest ⌝ }
+    // A step that stopped ends the attempt. (No caller hands over a value.)
+    pub fn ending(self) -> Concluded
+        ensures { λ r. ⌜ r ≡ ending self ⌝ }
     {
         match self {
-            Stepped::Value(_, count) => Answer {
-                ending: Ending::Completed,
-                count,
-                guest,
-            },
-            Stepped::Stopped(e, count) => Answer {
-                ending: e,
-                count,
-                guest,
-            },
+            Stepped::Value(_, count) => Concluded::Complete(RecordChange::Unchanged, count),
+            Stepped::Stopped(e, count) => Concluded::Ended(e, count),
         }
     }
 }
 
-// Completion with this record, its instruction address moved on by so many bytes, after so many reads and writes.
-pub fn completed_as(guest: Guest, bytes: u32, reads: u32, writes: u32) -> Answer
-    ensures { λ r. ⌜ r ≡ completionAs guest bytes reads writes ⌝ }
+// Completion that changes this in the record, after so many reads and writes.
+pub fn completed_as(change: RecordChange, reads: u32, writes: u32) -> Concluded
+    ensures { λ r. ⌜ r ≡ completionAs change reads writes ⌝ }
 {
-    let ending = Ending::Completed;
-    Answer {
-        ending,
-        count: std::num::wrapping_add_u32(reads, writes),
-        guest: guest.advance(bytes),
-    }
+    Concluded::Complete(change, std::num::wrapping_add_u32(reads, writes))
 }
 
-// Completion with the call's own record, moved on by the instruction's length.
-pub fn completed(call: Call, reads: u32, writes: u32) -> Answer
-    ensures { λ r. ⌜ r ≡ completion call reads writes ⌝ }
+// The same where it changes nothing in the record but the instruction address.
+pub fn completed(reads: u32, writes: u32) -> Concluded
+    ensures { λ r. ⌜ r ≡ completion reads writes ⌝ }
 {
-    completed_as(call.guest, call.length(), reads, writes)
+    completed_as(RecordChange::Unchanged, reads, writes)
 }
 
 // An answer after n references more.
-pub fn answer_after(answer: Answer, n: u32) -> Answer
+pub fn answer_after(answer: Concluded, n: u32) -> Concluded
     ensures { λ r. ⌜ r ≡ laterAnswer n answer ⌝ }
 {
-    let ending = answer.ending;
-    let guest = answer.guest;
-    Answer {
-        ending,
-        count: std::num::wrapping_add_u32(n, answer.count),
-        guest,
+    match answer {
+        Concluded::Complete(change, count) => {
+            Concluded::Complete(change, std::num::wrapping_add_u32(n, count))
+        }
+        Concluded::Ended(e, count) => Concluded::Ended(e, std::num::wrapping_add_u32(n, count)),
     }
 }

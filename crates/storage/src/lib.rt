@@ -11,6 +11,7 @@ mod recording;
 mod steps;
 mod stores;
 
+pub use answers::Concluded;
 pub use answers::answer_after;
 pub use answers::completed;
 pub use answers::completed_as;

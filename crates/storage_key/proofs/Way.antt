@@ -3,8 +3,7 @@ use Prim.Native.Nat.{ℕ}
 use mathlib.Core.Path.{_≡_, refl, sym, ap, _∙_}
 use mathlib.Core.List.{List}
 use Rattle.rules.specs.declared.endings.Ending.{Ending}
-use Rattle.rules.specs.declared.guest.Guest.{Guest}
-use Rattle.rules.specs.declared.answer.Answer.{Answer}
+use Rattle.storage.specs.declared.answers.Concluded.{Concluded}
 use Rattle.rules.specs.declared.tables.FoundPage.{FoundPage}
 use Rattle.rules.specs.Machine.{Machine}
 use Rattle.rules.specs.Steps.{Steps, _>>=_}
@@ -76,10 +75,10 @@ module _ {S : Type 0} {entry : S → Machine} {stage : S → Steps Completion} w
       (goes (a .way) (a .next) (a .runs) (ap (λ x. toldPage x (a .storage) (a .keys)) (sym e) ∙ a .so))
 
   -- the ending, and with it that of the instruction
-  pub ended-on-way : (g : Guest) (x : Answer) (a : Sought entry stage) {e : Ending} {c : ℕ}
-      → x ≡ pageEnding (a .answer) g → a .answer ≡ Stopped e c
-      → finished x (a .storage) (a .keys) ≡ finish g (seen (stage (a .start)) (entry (a .start)))
-  ended-on-way g x a f e =
-      ap (λ y. finished y (a .storage) (a .keys)) (f ∙ ap (λ r. pageEnding r g) e)
-      ∙ ap (finish g)
+  pub ended-on-way : (x : Concluded) (a : Sought entry stage) {e : Ending} {c : ℕ} → x ≡ pageEnding (a .answer)
+      → a .answer ≡ Stopped e c
+      → finished x (a .storage) (a .keys) ≡ finish (seen (stage (a .start)) (entry (a .start)))
+  ended-on-way x a f e =
+      ap (λ y. finished y (a .storage) (a .keys)) (f ∙ ap pageEnding e)
+      ∙ ap finish
       (ends (a .way) (a .next) (a .runs) (ap (λ x. toldPage x (a .storage) (a .keys)) (sym e) ∙ a .so))

@@ -1,12 +1,13 @@
 -- The answer of the way to a page, read as `told` of the storage crate reads the answer of a step.
 use Prim.Native.Nat.{ℕ, _+_, _%_, _^_}
 use mathlib.Core.List.{List}
-use Rattle.rules.specs.declared.guest.Guest.{Guest}
-use Rattle.rules.specs.declared.answer.Answer.{Answer}
 use Rattle.rules.specs.declared.endings.Ending.the-variants.{Completed}
+use Rattle.rules.specs.declared.record_change.RecordChange.the-variants.{Unchanged}
 use Rattle.rules.specs.declared.tables.FoundPage.{FoundPage}
 use Rattle.rules.specs.Run.{View}
-use Rattle.storage.specs.Answers.{machine, went, over, answer}
+use Rattle.storage.specs.Answers.{machine, went, over}
+use Rattle.storage.specs.declared.answers.Concluded.{Concluded}
+use Rattle.storage.specs.declared.answers.Concluded.the-variants.{Complete, Ended}
 use Rattle.storage.specs.declared.steps.Stepped.{Stepped}
 use Rattle.storage.specs.declared.steps.Stepped.the-variants.{Value}
 use Rattle.storage.specs.declared.steps.Stepped.the-variants as step
@@ -23,9 +24,9 @@ laterPage n (Page p c) = Page p ((n + c) % 2 ^ 32)
 laterPage n (Stopped e c) = Stopped e ((n + c) % 2 ^ 32)
 
 -- the answer where the way stopped (a page would complete nothing)
-abbrev pub pageEnding : Found → Guest → Answer
-pageEnding (Page p n) g = answer Completed n g
-pageEnding (Stopped e n) g = answer e n g
+abbrev pub pageEnding : Found → Concluded
+pageEnding (Page p n) = Complete Unchanged n
+pageEnding (Stopped e n) = Ended e n
 
 -- the answer of a step that stopped, as the way's
 abbrev pub stoppedPage : Stepped → Found

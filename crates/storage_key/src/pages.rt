@@ -7,12 +7,12 @@ use crate::tables::format_in;
 use crate::tables::page_of;
 use crate::tables::refused;
 use crate::tables::swap_word_at;
-use rules::Answer;
 use rules::Ending;
 use rules::FieldNumbers;
 use rules::Format;
 use rules::FoundPage;
-use rules::Guest;
+use rules::RecordChange;
+use storage::Concluded;
 use storage::Stepped;
 
 // The page, or the ending, and the count of references.
@@ -32,21 +32,13 @@ impl Found {
         }
     }
 
-    // A way that stopped ends the attempt; the record is handed back as it was. (No caller hands over a page.)
-    pub(crate) fn ending(self, guest: Guest) -> Answer
-        ensures { λ r. ⌜ r ≡ pageEnding self guest ⌝ }
+    // A way that stopped ends the attempt. (No caller hands over a page.)
+    pub(crate) fn ending(self) -> Concluded
+        ensures { λ r. ⌜ r ≡ pageEnding self ⌝ }
     {
         match self {
-            Found::Page(_, count) => Answer {
-                ending: Ending::Completed,
-                count,
-                guest,
-            },
-            Found::Stopped(e, count) => Answer {
-                ending: e,
-                count,
-                guest,
-            },
+            Found::Page(_, count) => Concluded::Complete(RecordChange::Unchanged, count),
+            Found::Stopped(e, count) => Concluded::Ended(e, count),
         }
     }
 }

@@ -10,39 +10,39 @@ use crate::pages::Found;
 use crate::pages::find_page;
 use crate::tables::places;
 use crate::tables::segment_table;
-use rules::Answer;
 use rules::Call;
 use rules::Ending;
 use rules::FoundPage;
 use rules::KeyUse;
+use rules::RecordChange;
+use storage::Concluded;
 use storage::Stepped;
 
 // Step 12 on a valid page, and step 13: the key of its block, and the swap word.
-fn reset_block_key(storage: &mut [u8], keys: &mut [u8], call: Call, page: FoundPage) -> Answer
+fn reset_block_key(storage: &mut [u8], keys: &mut [u8], page: FoundPage) -> Concluded
     ensures { λ r. ⌜
         finished r (now (storage .exit)) (now (keys .exit))
-        ≡ finish (call .guest)
-        (seen (resetBlockKey call page) (machine (now (storage .entry)) (now (keys .entry))))
+        ≡ finish
+        (seen (resetBlockKey page) (machine (now (storage .entry)) (now (keys .entry))))
         ⌝ }
 {
     let block = page.block;
-    let guest = call.guest;
     let consulted = storage::consult_key(keys, KeyUse::Whole, block, Ending::FieldMissing(6));
     let Stepped::Value(old, count) = consulted else {
-        return consulted.ending(guest);
+        return consulted.ending();
     };
     let marks = old / 2 % 4;
     // 12, and then 13
     storage::set_key(keys, block, unreferred(old));
     storage::store_word(storage, keys, page.place, reset_word(page, marks));
-    let coded = guest.with_code(marks_with(page, marks));
-    storage::completed_as(coded, call.length(), count, 2)
+    let change = RecordChange::ConditionCode(marks_with(page, marks));
+    storage::completed_as(change, count, 2)
 }
 
-pub fn reset_reference_bit(storage: &mut [u8], keys: &mut [u8], call: Call) -> Answer
+pub fn reset_reference_bit(storage: &mut [u8], keys: &mut [u8], call: Call) -> Concluded
     ensures { λ r. ⌜
         finished r (now (storage .exit)) (now (keys .exit))
-        ≡ finish (call .guest)
+        ≡ finish
         (seen (resetReferenceBit call) (machine (now (storage .entry)) (now (keys .entry))))
         ⌝ }
 {
@@ -50,24 +50,24 @@ pub fn reset_reference_bit(storage: &mut [u8], keys: &mut [u8], call: Call) -> A
     // 1 to 3
     let table = segment_table(storage, keys, guest.assists_control(), places(), guest);
     let Stepped::Value(rseg, count_3) = table else {
-        return table.ending(guest);
+        return table.ending();
     };
     // 4
     let halfword = access::second_halfword(storage, keys, guest).after(count_3);
     let Stepped::Value(second, count_4) = halfword else {
-        return halfword.ending(guest);
+        return halfword.ending();
     };
     // 5 to 11
     let found = find_page(storage, keys, places(), rseg, guest.effective(second)).after(count_4);
     let Found::Page(page, count) = found else {
-        return found.ending(guest);
+        return found.ending();
     };
     // 12
     if page.invalid {
         // 13
         storage::store_word(storage, keys, page.place, reset_word(page, 0));
-        let coded = guest.with_code(marks_with(page, 0));
-        return storage::completed_as(coded, call.length(), count, 1);
+        let change = RecordChange::ConditionCode(marks_with(page, 0));
+        return storage::completed_as(change, count, 1);
     }
-    storage::answer_after(reset_block_key(storage, keys, call, page), count)
+    storage::answer_after(reset_block_key(storage, keys, page), count)
 }

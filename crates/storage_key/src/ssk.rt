@@ -12,25 +12,25 @@ use crate::pages::Found;
 use crate::pages::find_page;
 use crate::tables::segment_table;
 use crate::tables::steps;
-use rules::Answer;
 use rules::Call;
 use rules::Ending;
 use rules::FoundPage;
 use rules::KeyUse;
+use storage::Concluded;
 use storage::Stepped;
 
 // Step 11 on a valid page, and step 12: the key of its block, and the swap word.
-fn set_block_key(storage: &mut [u8], keys: &mut [u8], call: Call, page: FoundPage) -> Answer
+fn set_block_key(storage: &mut [u8], keys: &mut [u8], call: Call, page: FoundPage) -> Concluded
     ensures { λ r. ⌜
         finished r (now (storage .exit)) (now (keys .exit))
-        ≡ finish (call .guest)
+        ≡ finish
         (seen (setBlockKey call page) (machine (now (storage .entry)) (now (keys .entry))))
         ⌝ }
 {
     let block = page.block;
     let consulted = storage::consult_key(keys, KeyUse::Whole, block, Ending::FieldMissing(11));
     let Stepped::Value(old, count) = consulted else {
-        return consulted.ending(call.guest);
+        return consulted.ending();
     };
     // 11, and then 12
     storage::set_key(keys, block, new_key(key_word(call), old));
@@ -40,13 +40,13 @@ fn set_block_key(storage: &mut [u8], keys: &mut [u8], call: Call, page: FoundPag
         page.place,
         swap_word(call, page, old / 2 % 4),
     );
-    storage::completed(call, count, 2)
+    storage::completed(count, 2)
 }
 
-pub fn set_storage_key(storage: &mut [u8], keys: &mut [u8], call: Call) -> Answer
+pub fn set_storage_key(storage: &mut [u8], keys: &mut [u8], call: Call) -> Concluded
     ensures { λ r. ⌜
         finished r (now (storage .exit)) (now (keys .exit))
-        ≡ finish (call .guest) (seen (setStorageKey call) (machine (now (storage .entry)) (now (keys .entry))))
+        ≡ finish (seen (setStorageKey call) (machine (now (storage .entry)) (now (keys .entry))))
         ⌝ }
 {
     let guest = call.guest;
@@ -54,18 +54,18 @@ pub fn set_storage_key(storage: &mut [u8], keys: &mut [u8], call: Call) -> Answe
     // 1 to 3
     let table = segment_table(storage, keys, assists_keys(call), steps(), guest);
     let Stepped::Value(rseg, count_3) = table else {
-        return table.ending(guest);
+        return table.ending();
     };
     // 4 to 10
     let found = find_page(storage, keys, steps(), rseg, at).after(count_3);
     let Found::Page(page, count) = found else {
-        return found.ending(guest);
+        return found.ending();
     };
     // 11
     if page.invalid {
         // 12
         storage::store_word(storage, keys, page.place, swap_word(call, page, 0));
-        return storage::completed(call, count, 1);
+        return storage::completed(count, 1);
     }
     storage::answer_after(set_block_key(storage, keys, call, page), count)
 }

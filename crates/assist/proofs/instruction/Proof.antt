@@ -48,7 +48,7 @@ returns c =
     let call = c .before .before .before .before in
     let test = call .before .before .before in
     let code = test .before in
-    continues (start code .args .call .guest) (call .set-system-mask .result) (call .set-system-mask .last .0)
+    continues (call .set-system-mask .result) (call .set-system-mask .last .0)
     (call .set-system-mask .last .1 .0)
     (chosen _ _ _ (begin (entry (start code)) (stage (start code)))
     (eq-eqb _ _ (sym (code .operation .ensures) ∙ test .if1 .taken)))
@@ -69,7 +69,7 @@ returns-2 c =
     let call = c .before .before .before .before in
     let test = call .before .before .before in
     let here = not-ssm (test .before) in
-    continues (here .start .args .call .guest) (call .store-control .result) (call .store-control .last .0)
+    continues (call .store-control .result) (call .store-control .last .0)
     (call .store-control .last .1 .0)
     (chosen _ _ _ (here .runs) (eq-eqb _ _ (sym (test .before .before .operation .ensures) ∙ test .if2 .taken)))
     (call .store-control .ensures)
@@ -100,10 +100,10 @@ returns-3 c =
     let two = test .before in
     let here = not-stctl (two .before) in
     let a = here .start .args in
-    continues (a .call .guest) (call .store-then .result) (call .store-then .last .0) (call .store-then .last .1 .0)
+    continues (call .store-then .result) (call .store-then .last .0) (call .store-then .last .1 .0)
     (either-change (a .call) _ _ _ (here .runs) (one-of-two two ∙ test .if3 .taken))
     (call .store-then .ensures
-    ∙ ap (λ x. finish (a .call .guest) (seen (storeThen x (a .call)) (entry (here .start))))
+    ∙ ap (λ x. finish (seen (storeThen x (a .call)) (entry (here .start))))
     (change .mask-change .ensures ∙ ap (λ o. changeBy (eqb o 0xac)) (code two .operation .ensures)))
 
 abbrev not-mask : tie.Else3 → Reached entry stage
@@ -120,7 +120,7 @@ returns-4 c =
     let call = c .before .before .before .before in
     let test = call .before .before .before in
     let here = not-mask (test .before) in
-    continues (here .start .args .call .guest) (call .set-storage-key .result) (call .set-storage-key .last .0)
+    continues (call .set-storage-key .result) (call .set-storage-key .last .0)
     (call .set-storage-key .last .1 .0)
     (chosen _ _ _ (here .runs)
     (eq-eqb _ _ (sym (code (test .before .before) .operation .ensures) ∙ test .if4 .taken)))
@@ -142,7 +142,7 @@ returns-5 c =
     let test = call .before .before .before in
     let here = not-ssk (test .before) in
     let a = here .start .args in
-    continues (a .call .guest) (call .insert-storage-key .result) (a .storage .now)
+    continues (call .insert-storage-key .result) (a .storage .now)
     (call .insert-storage-key .last .1 .0)
     (chosen _ _ _ (here .runs)
     (eq-eqb _ _ (sym (code (test .before .before .before) .operation .ensures) ∙ test .if5 .taken)))
@@ -155,7 +155,7 @@ returns-6 c =
     let call = c .before .before .before .before in
     let test = call .before .before .before in
     let here = not-ssk (test .before) in
-    continues (here .start .args .call .guest) (call .reset-reference-bit .result) (call .reset-reference-bit .last .0)
+    continues (call .reset-reference-bit .result) (call .reset-reference-bit .last .0)
     (call .reset-reference-bit .last .1 .0)
     (rejected _ _ _ (here .runs)
     (ne-eqb _ _ (λ e. test .if5 .left (code (test .before .before .before) .operation .ensures ∙ e))))

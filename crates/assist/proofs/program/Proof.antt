@@ -1,4 +1,4 @@
-use mathlib.Core.Path.{ap}
+use mathlib.Core.Path.{refl, ap}
 use mathlib.Core.Bool.{not}
 use lib.ListN.{length}
 use Rattle.rules.specs.Machine.{Machine}
@@ -27,10 +27,7 @@ storage c =
 
 returns : tie.Need-returns
 unfolding admitted storage
-returns c =
-    let test = storage (c .before .before) in
-    stopped-with (test .start .args .call .guest) (c .not-admitted .result) test (c .not-admitted .ensures)
-    (c .before .if1 .taken)
+returns c = stopped-with _ (storage (c .before)) refl (c .if1 .taken)
 
 -- 11
 abbrev keys : tie.After-is-wrong-keys → Tested entry stage
@@ -41,10 +38,7 @@ keys c =
 
 returns-2 : tie.Need-returns-2
 unfolding admitted storage keys
-returns-2 c =
-    let test = keys (c .before .before) in
-    stopped-with (test .start .args .call .guest) (c .not-admitted2 .result) test (c .not-admitted2 .ensures)
-    (c .before .if2 .taken)
+returns-2 c = stopped-with _ (keys (c .before)) refl (c .if2 .taken)
 
 -- 12
 abbrev odd : tie.After-is-odd → Tested entry stage
@@ -55,10 +49,7 @@ odd c =
 
 returns-3 : tie.Need-returns-3
 unfolding admitted storage keys odd
-returns-3 c =
-    let test = odd (c .before .before) in
-    stopped-with (test .start .args .call .guest) (c .not-admitted3 .result) test (c .not-admitted3 .ensures)
-    (c .before .if3 .taken)
+returns-3 c = stopped-with _ (odd (c .before)) refl (c .if3 .taken)
 
 -- 13
 abbrev assisted : tie.After-is-assisted → Tested entry stage
@@ -70,10 +61,7 @@ assisted c =
 
 returns-4 : tie.Need-returns-4
 unfolding admitted storage keys odd assisted
-returns-4 c =
-    let test = assisted (c .before .before) in
-    stopped-with (test .start .args .call .guest) (c .not-admitted4 .result) test (c .not-admitted4 .ensures)
-    (c .before .if4 .taken)
+returns-4 c = stopped-with _ (assisted (c .before)) refl (c .if4 .taken)
 
 -- 9
 abbrev mode : tie.After-is-wrong-mode → Tested entry stage
@@ -84,10 +72,7 @@ mode c =
 
 returns-5 : tie.Need-returns-5
 unfolding admitted storage keys odd assisted mode
-returns-5 c =
-    let test = mode (c .before .before) in
-    stopped-with (test .start .args .call .guest) (c .not-admitted5 .result) test (c .not-admitted5 .ensures)
-    (c .before .if5 .taken)
+returns-5 c = stopped-with _ (mode (c .before)) refl (c .if5 .taken)
 
 -- and then the instruction
 returns-6 : tie.Need-returns-6
@@ -96,7 +81,7 @@ returns-6 c =
     let call = c .before .before .before .before in
     let test = call .before .before .before in
     let here = passed (mode (test .before)) (test .if5 .left) in
-    continues (here .start .args .call .guest) (call .instruction .result) (call .instruction .last .0)
+    continues (call .instruction .result) (call .instruction .last .0)
     (call .instruction .last .1 .0) (here .runs) (call .instruction .ensures)
 
 pub program-spec : {M : Type 1} → statement M
@@ -104,18 +89,13 @@ program-spec =
     tie.close
     (tie.spec
     (λ c κs. search needs)
-    (λ c κs. search needs)
     returns
-    (λ c κs. search needs)
     (λ c κs. search needs)
     returns-2
     (λ c κs. search needs)
-    (λ c κs. search needs)
     returns-3
     (λ c κs. search needs)
-    (λ c κs. search needs)
     returns-4
-    (λ c κs. search needs)
     (λ c κs. search needs)
     returns-5
     (λ c κs. search needs)

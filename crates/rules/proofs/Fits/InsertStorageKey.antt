@@ -65,7 +65,7 @@ twice l r byte = go (ltb r (length l)) refl
         let past : length l ≤ r = ltb-false r (length l) e in
         ap (λ s. set s r (joined (getD s r 0) 0)) (set-out l r x past)
 
-advanced : (c : Call) (byte : ℕ) → Advanced 0x09 c (advance (withByte (c .guest) (r1 c) byte) (lengthOf (operationByte c)))
+advanced : (c : Call) (byte : ℕ) → Advanced 0x09 c (withByte (c .guest) (r1 c) byte)
 advanced c byte =
     let g = c .guest in
     ap (λ l. record { psw = advance g (lengthOf (operationByte c)) .psw; general = l; cr0 = g .cr0; cr1 = g .cr1; cr6 = g .cr6 })

@@ -95,7 +95,7 @@ module _ (n : ℕ) where
       ∙ sym (forgets left old right h k)
       ∙ ap (λ q. recoded (moved q) 0) (sym (split p))
 
-advanced : (c : Call) (code : ℕ) → Advanced 0xb213 c (advance (withCode (c .guest) code) (lengthOf (operationByte c)))
+advanced : (c : Call) (code : ℕ) → Advanced 0xb213 c (withCode (c .guest) code)
 advanced c code =
     let g = c .guest in
     ap (λ p. record { psw = p; general = g .general; cr0 = g .cr0; cr1 = g .cr1; cr6 = g .cr6 })
@@ -103,24 +103,24 @@ advanced c code =
 
 -- ---- the instruction
 
-resetBlockKey-fits : (c : Call) (p : FoundPage) → Fits 0xb213 c (resetBlockKey c p) 3
+resetBlockKey-fits : (c : Call) (p : FoundPage) → Fits 0xb213 c (resetBlockKey p) 3
 unfolding fetching storeReset resetBlockKey
 resetBlockKey-fits c p = (stops refl refl refl, λ old. completes refl (advanced c _) (omega arith))
 
 -- steps 12 and 13, and from step 5
-abbrev reset : Call → FoundPage → Steps Completion
-reset c p = branch (p .invalid) (storeReset c p [] 0) (resetBlockKey c p)
+abbrev reset : FoundPage → Steps Completion
+reset p = branch (p .invalid) (storeReset p [] 0) (resetBlockKey p)
 
 abbrev resetAt : Call → (rseg second : ℕ) → Steps Completion
-resetAt c rseg second = findPage places rseg (effective (c .guest) second) >>= reset c
+resetAt c rseg second = findPage places rseg (effective (c .guest) second) >>= reset
 
-reset-fits : (c : Call) (p : FoundPage) → Fits 0xb213 c (reset c p) 3
+reset-fits : (c : Call) (p : FoundPage) → Fits 0xb213 c (reset p) 3
 unfolding fetching storeReset
 reset-fits c p = (λ t. completes refl (advanced c _) (omega arith), λ t. resetBlockKey-fits c p)
 
 resetAt-fits : (c : Call) (rseg second : ℕ) → Fits 0xb213 c (resetAt c rseg second) 7
 resetAt-fits c rseg second =
-    fits-then 0xb213 c (findPage places rseg _) (reset c) 4 3 7 (omega arith)
+    fits-then 0xb213 c (findPage places rseg _) reset 4 3 7 (omega arith)
     (findPage-within 0xb213 places way rseg _) (reset-fits c)
 
 pub resetReferenceBit-fits : (c : Call) → Fits 0xb213 c (resetReferenceBit c) 12

@@ -78,7 +78,7 @@ storeRegisters-fits : (c : Call) (ecblok a : ℕ) → a < 2 ^ 24
     → let n = registerCount (r1 c) (r3 c) in
     Fits 0xb6 c
     (virtualRegisters ecblok (r1 c) n
-    >>= λ values. operandWords (c .guest) a n >>= λ reals. complete c (wordStores reals values)) 80
+    >>= λ values. operandWords (c .guest) a n >>= λ reals. complete (wordStores reals values)) 80
 unfolding completeAs
 storeRegisters-fits c ecblok a l =
     let n = registerCount (r1 c) (r3 c) in

@@ -36,7 +36,7 @@ length-by-code c h =
 
 concluded : (m : Machine) (c : Call) (rs : List Reference) (o : Outcome Completion)
     → Came (Stops (operation c)) (Completes (operation c) c) 85 (length rs) o → All Reads rs
-    → Answered m c (conclude m (c .guest) rs o)
+    → Answered m c (conclude m c rs o)
 concluded m c rs (ended e) h r = record {
   possible = h .0 .possible;
   untouched = λ n. record {

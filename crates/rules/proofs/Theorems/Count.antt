@@ -17,7 +17,7 @@ use Rattle.rules.proofs.Fits.Attempt.{reading-came}
 
 at-most : (m : Machine) (c : Call) (rs : List Reference) (o : Outcome Completion)
     → Came (Stops (operation c)) (Completes (operation c) c) 85 (length rs) o
-    → length (conclude m (c .guest) rs o .references) ≤ 85
+    → length (conclude m c rs o .references) ≤ 85
 at-most m c rs (ended e) h = h .1
 at-most m c rs (gave k) h =
     let w : length (k .writes) ≤ h .0 = h .1 .written in
@@ -25,7 +25,7 @@ at-most m c rs (gave k) h =
     simp (length-append, length-map) (omega arith)
 
 same : (m : Machine) (c : Call) (rs : List Reference) (o : Outcome Completion)
-    → conclude m (c .guest) rs o .answer .count ≡ length (conclude m (c .guest) rs o .references)
+    → conclude m c rs o .answer .count ≡ length (conclude m c rs o .references)
 same m c rs (ended e) = refl
 same m c rs (gave k) = refl
 

@@ -20,7 +20,6 @@ use Rattle.rules.specs.References.{
   keySet,
   bytesOf,
 }
-use Rattle.rules.specs.Guest.{Guest}
 use Rattle.rules.specs.Run.{Outcome, ended, gave, run}
 use Rattle.rules.specs.Call.{Call, Completion}
 use Rattle.rules.specs.Attempt.{program, conclude, reading, attempt}
@@ -57,20 +56,20 @@ use Rattle.rules.proofs.Local.{SameKey, Agree, local}
 -- ---- one call
 
 module _ (p q : Part) (wp : WholeBlocks p) (wq : WholeBlocks q) (a b c : Machine) (t : Together p q a b c) where
-  concluded-together : (g : Guest) (rs : List Reference) (o : Outcome Completion)
-      → All (Keeps p q) (conclude a g rs o .references)
-      → Together p q (conclude a g rs o .after) b (conclude c g rs o .after)
-  concluded-together g rs o h = record {
-    bytes = rw (concluded-storage a g rs o, concluded-storage c g rs o)
+  concluded-together : (call : Call) (rs : List Reference) (o : Outcome Completion)
+      → All (Keeps p q) (conclude a call rs o .references)
+      → Together p q (conclude a call rs o .after) b (conclude c call rs o .after)
+  concluded-together call rs o h = record {
+    bytes = rw (concluded-storage a call rs o, concluded-storage c call rs o)
         (bytes-put (Bytes p q) (Bytes q p) (a .storage) (b .storage) (c .storage) (storagePuts o)
-        (put-bytes p q a g rs o h) (t .bytes));
+        (put-bytes p q a call rs o h) (t .bytes));
     keys =
         let size = length (c .keys) in
-        keys-done p q (a .keys) (b .keys) (c .keys) (conclude a g rs o .after .keys) (conclude c g rs o .after .keys)
-        (λ k. touched k (conclude a g rs o .references)) (λ k. effect size k rs o)
-        (λ k. acts-effect p q wp wq size k a g rs o h) (concluded-length a g rs o) (concluded-length c g rs o)
-        (λ k. concluded-at a g rs o k ∙ ap (λ n. effect n k rs o (getD (a .keys) k 0)) (sym (t .keys .first)))
-        (concluded-at c g rs o) (t .keys);
+        keys-done p q (a .keys) (b .keys) (c .keys) (conclude a call rs o .after .keys) (conclude c call rs o .after .keys)
+        (λ k. touched k (conclude a call rs o .references)) (λ k. effect size k rs o)
+        (λ k. acts-effect p q wp wq size k a call rs o h) (concluded-length a call rs o) (concluded-length c call rs o)
+        (λ k. concluded-at a call rs o k ∙ ap (λ n. effect n k rs o (getD (a .keys) k 0)) (sym (t .keys .first)))
+        (concluded-at c call rs o) (t .keys);
   }
 
   same-key : (r : Reference) → Keeps p q r → SameKey (a .keys) (c .keys) r
@@ -88,15 +87,15 @@ module _ (p q : Part) (wp : WholeBlocks p) (wq : WholeBlocks q) (a b c : Machine
   }
 
   -- what is read is part of what the call refers to
-  reads : (P : Reference → Type 0) (g : Guest) (rs : List Reference) (o : Outcome Completion)
-      → All P (conclude a g rs o .references) → All P rs
-  reads P g rs (ended e) h = h
-  reads P g rs (gave k) h = all-left P rs (map entry (k .writes)) h
+  reads : (P : Reference → Type 0) (call : Call) (rs : List Reference) (o : Outcome Completion)
+      → All P (conclude a call rs o .references) → All P rs
+  reads P call rs (ended e) h = h
+  reads P call rs (gave k) h = all-left P rs (map entry (k .writes)) h
 
-  same-answer : (g : Guest) (rs : List Reference) (o : Outcome Completion)
-      → conclude c g rs o .answer ≡ conclude a g rs o .answer
-  same-answer g rs (ended e) = refl
-  same-answer g rs (gave k) = refl
+  same-answer : (call : Call) (rs : List Reference) (o : Outcome Completion)
+      → conclude c call rs o .answer ≡ conclude a call rs o .answer
+  same-answer call rs (ended e) = refl
+  same-answer call rs (gave k) = refl
 
   module _ (x : Call) (h : All (Keeps p q) (attempt a x .references)) where
     same-reading : reading c x ≡ reading a x
@@ -106,17 +105,17 @@ module _ (p q : Part) (wp : WholeBlocks p) (wq : WholeBlocks q) (a b c : Machine
         ∙ local (program (length (a .storage)) (length (a .keys)) x) a c
         (record { storage = t .bytes .first; keys = t .keys .first })
         (all-map (Keeps p q) (Agree a c) agrees (reading a x .references)
-        (reads (Keeps p q) (x .guest) (reading a x .references) (reading a x .outcome) h))
+        (reads (Keeps p q) x (reading a x .references) (reading a x .outcome) h))
 
     -- so the attempt beside the other guest is the one alone, concluded there
-    same-attempt : attempt c x ≡ conclude c (x .guest) (reading a x .references) (reading a x .outcome)
-    same-attempt = ap (λ r. conclude c (x .guest) (r .references) (r .outcome)) same-reading
+    same-attempt : attempt c x ≡ conclude c x (reading a x .references) (reading a x .outcome)
+    same-attempt = ap (λ r. conclude c x (r .references) (r .outcome)) same-reading
 
     call-answer : attempt c x .answer ≡ attempt a x .answer
-    call-answer = rw same-attempt (same-answer (x .guest) (reading a x .references) (reading a x .outcome))
+    call-answer = rw same-attempt (same-answer x (reading a x .references) (reading a x .outcome))
 
     call-together : Together p q (attempt a x .after) b (attempt c x .after)
-    call-together = rw same-attempt (concluded-together (x .guest) (reading a x .references) (reading a x .outcome) h)
+    call-together = rw same-attempt (concluded-together x (reading a x .references) (reading a x .outcome) h)
 
 -- ---- every order
 
@@ -160,11 +159,11 @@ module _ (p q : Part) (wp : WholeBlocks p) (wq : WholeBlocks q) where
       let made = reading m x .references in
       let o = reading m x .outcome in
       let old = isReferred (getD (m .keys) k 0) in
-      let size = concluded-length m (x .guest) made o in
-      let acts = acts-effect p q wp wq (length (m .keys)) k m (x .guest) made o (all-left (Keeps p q) rs later h) in
+      let size = concluded-length m x made o in
+      let acts = acts-effect p q wp wq (length (m .keys)) k m x made o (all-left (Keeps p q) rs later h) in
       bit-alone m′ us (all-right (Keeps p q) rs later h) k n (subst (λ z. ltb k z ≡ true) (sym size) l)
       ∙ ap (λ z. z || touched k later)
-      (ap isReferred (concluded-at m (x .guest) made o k) ∙ acts .referenceBit l n (getD (m .keys) k 0))
+      (ap isReferred (concluded-at m x made o k) ∙ acts .referenceBit l n (getD (m .keys) k 0))
       ∙ or-assoc old (touched k rs) (touched k later)
       ∙ ap (λ z. old || z) (sym (touched-append k rs later))
 

@@ -47,7 +47,7 @@ admittedOn m = admitted (length (m .storage)) (length (m .keys))
 abbrev pub attemptWith : (op : ℕ) → (Call → Steps Completion) → Program
 attemptWith op wrong m c =
     let r = run (admittedOn m (λ c. branch (eqb (operation c) op) (wrong c) (instruction c)) c) m in
-    conclude m (c .guest) (r .references) (r .outcome)
+    conclude m c (r .references) (r .outcome)
 
 -- ---- the wrong turns
 
@@ -60,7 +60,7 @@ pendingInAddress c = do
   let ec = extendedIn first
   stopIf (ec && maskNeedsExpanded (pending vpsw) (maskIn first) new) (expanded c)
   stopIf (not ec && maskRefused (pending vpsw) (maskIn first) new) refuse
-  complete c (store vpsw 1 new ∷ [])
+  complete (store vpsw 1 new ∷ [])
 
 -- STCTL that stores each word as soon as its own test has passed: the values, from an address on
 unfoldable pub storeEach : Call → List Reference → (address : ℕ) → List ℕ → Machine → Result
@@ -117,14 +117,14 @@ unfoldable pub exceptionAsItself : Call → Steps Completion
 exceptionAsItself = storeThenAndBy λ c vpsw first old new. do
   second ← secondHalfword (c .guest)
   real ← storeTest (c .guest) (effective (c .guest) second)
-  complete c (store real 1 old ∷ store vpsw 1 new ∷ [])
+  complete (store real 1 old ∷ store vpsw 1 new ∷ [])
 
 -- writing the whole halfword of the virtual PSW
 unfoldable pub wholeHalfword : Call → Steps Completion
 wholeHalfword = storeThenAndBy λ c vpsw first old new. do
   second ← endingAs (λ e. refuse) (secondHalfword (c .guest))
   real ← storeTest (c .guest) (effective (c .guest) second)
-  complete c (store real 1 old ∷ store vpsw 2 (new * 256 + first % 256) ∷ [])
+  complete (store real 1 old ∷ store vpsw 2 (new * 256 + first % 256) ∷ [])
 
 -- ---- the impostors
 

@@ -37,7 +37,7 @@ returns : tie.Need-returns
 unfolding storeControl block
 returns c =
     let asked = block (c .before .before .before .before .before) in
-    ended-with (asked .start .args .call .guest) (c .ending .result) asked (c .ending .ensures)
+    ended-with (c .ending .result) asked (c .ending .ensures)
     (c .before .enum-told .given .1)
 
 -- steps 3 and 4
@@ -55,7 +55,7 @@ returns-2 : tie.Need-returns-2
 unfolding storeControl block operand
 returns-2 c =
     let asked = operand (c .before .before .before) in
-    ended-with (asked .start .args .call .guest) (c .ending2 .result) asked (c .ending2 .ensures)
+    ended-with (c .ending2 .result) asked (c .ending2 .ensures)
     (c .before .enum-told2 .given .1)
 
 abbrev address : tie.After-register-count → Reached entry stage
@@ -92,7 +92,7 @@ returns-3 : tie.Need-returns-3
 unfolding storeControl block operand address registers
 returns-3 c =
     let asked = registers (c .before .before .before) in
-    ended-without (asked .start .args .call .guest) (c .ending3 .result) asked (c .ending3 .ensures)
+    ended-without (c .ending3 .result) asked (c .ending3 .ensures)
     (c .before .enum-told3 .given .1)
 
 -- and the operand words
@@ -124,7 +124,7 @@ returns-4 : tie.Need-returns-4
 unfolding storeControl block operand address registers values words
 returns-4 c =
     let asked = words (c .before .before .before) in
-    ended-without (asked .start .args .call .guest) (c .ending4 .result) asked (c .ending4 .ensures)
+    ended-without (c .ending4 .result) asked (c .ending4 .ensures)
     (c .before .enum-told4 .given .1)
 
 -- and only then the stores: as many as registers
@@ -160,9 +160,9 @@ returns-5 c =
     let from = fetched at .before .before .before .virtual-registers in
     let n = number (fetched at) in
     let e = counted n in
-    completes (here .start .args .call) (c .completed .result) (put .store-words .last .0)
+    completes (c .completed .result) (put .store-words .last .0)
     (put .store-words .last .1 .0) _ (here .runs)
-    (c .completed .ensures ∙ ap (completion (here .start .args .call) (here .count))
+    (c .completed .ensures ∙ ap (completion (here .count))
     (sym (stored n (to .result .words) (from .result .words) (to .ensures .1) (from .ensures .1))
     ∙ ap (λ n. length (wordStores (take n (to .result .words)) (take n (from .result .words)))) e))
     (simp e at (put .store-words .ensures))

@@ -27,7 +27,7 @@ returns : tie.Need-returns
 unfolding setSystemMask operand
 returns c =
     let asked = operand (c .before .before .before .before .before) in
-    ended-with (asked .start .args .call .guest) (c .ending .result) asked (c .ending .ensures)
+    ended-with (c .ending .result) asked (c .ending .ensures)
     (c .before .enum-told .given .1)
 
 -- steps 7 to 9
@@ -44,7 +44,7 @@ returns-2 : tie.Need-returns-2
 unfolding setSystemMask operand target
 returns-2 c =
     let asked = target (c .before .before .before) in
-    ended-with (asked .start .args .call .guest) (c .ending2 .result) asked (c .ending2 .ensures)
+    ended-with (c .ending2 .result) asked (c .ending2 .ensures)
     (c .before .enum-told2 .given .1)
 
 -- step 10
@@ -54,7 +54,7 @@ returns-3 c =
     let put = c .before .before .before .before .before in
     let found = put .before .before .before .before in
     let here = given (target (found .before .before)) (found .target .given .1) in
-    completes (here .start .args .call) (c .completed .result) (put .put-mask .last .0) (put .put-mask .last .1 .0) _
+    completes (c .completed .result) (put .put-mask .last .0) (put .put-mask .last .1 .0) _
     (here .runs) (c .completed .ensures) (put .put-mask .ensures)
 
 pub set-system-mask-spec : {M : Type 1} → statement M

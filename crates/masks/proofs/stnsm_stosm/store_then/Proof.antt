@@ -44,7 +44,7 @@ returns : tie.Need-returns
 unfolding storeThen assisted
 returns c =
     let test = assisted (c .before .before) in
-    stopped-with (test .start .args .call .guest) (c .ending .result) test (c .ending .ensures) (c .before .if1 .taken)
+    stopped-with (c .ending .result) test (c .ending .ensures) (c .before .if1 .taken)
 
 -- step 2: MICVPSW
 abbrev field : tie.After-micblok-word → Asked entry stage
@@ -59,7 +59,7 @@ returns-2 : tie.Need-returns-2
 unfolding storeThen assisted field
 returns-2 c =
     let asked = field (c .before .before .before .before .before) in
-    ended-with (asked .start .args .call .guest) (c .ending2 .result) asked (c .ending2 .ensures)
+    ended-with (c .ending2 .result) asked (c .ending2 .ensures)
     (c .before .enum-told .given .1)
 
 -- step 3: the first halfword of the virtual PSW
@@ -81,7 +81,7 @@ returns-3 : tie.Need-returns-3
 unfolding storeThen assisted field halfword
 returns-3 c =
     let asked = halfword (c .before .before .before) in
-    ended-with (asked .start .args .call .guest) (c .ending3 .result) asked (c .ending3 .ensures)
+    ended-with (c .ending3 .result) asked (c .ending3 .ensures)
     (c .before .enum-told2 .given .1)
 
 -- step 4
@@ -123,7 +123,7 @@ unfolding storeThen assisted field halfword first expands
 returns-4 c =
     let test = c .before .before in
     let asked = expands (test .before) in
-    stopped-with (asked .start .args .call .guest) (c .ending4 .result) asked
+    stopped-with (c .ending4 .result) asked
     (simp (c .before .expanded .ensures) at (c .ending4 .ensures)) (test .if2 .taken)
 
 -- steps 5 and 6: the operand
@@ -148,7 +148,7 @@ returns-5 : tie.Need-returns-5
 unfolding storeThen assisted field halfword first expands operand
 returns-5 c =
     let asked = operand (c .before .before .before) in
-    ended-with (asked .start .args .call .guest) (c .ending5 .result) asked (c .ending5 .ensures)
+    ended-with (c .ending5 .result) asked (c .ending5 .ensures)
     (c .before .enum-told3 .given .1)
 
 -- step 7: the old mask, then the new one
@@ -180,7 +180,7 @@ returns-6 c =
     let at = address (old .before .before .before .before) in
     let new = store (addressIn (at .before .before .field .given .0 .0)) 1
     (newMask (a .change) (maskIn (old .before .before .halfword .given .0 .0)) (immediate (a .call))) in
-    completes (a .call) (c .completed .result) (put .put-mask .last .0) (put .put-mask .last .1 .0) _ (here .runs)
+    completes (c .completed .result) (put .put-mask .last .0) (put .put-mask .last .1 .0) _ (here .runs)
     (c .completed .ensures)
     (simp (changed mask, at .address-in .ensures) at (put .put-mask .ensures)
     ∙ ap (λ m. perform m new)

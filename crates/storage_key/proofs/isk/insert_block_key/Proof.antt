@@ -28,7 +28,7 @@ returns : tie.Need-returns
 unfolding insertBlockKey consulted
 returns c =
     let asked = consulted (c .before .before .before .before .before) in
-    ended-with (asked .start .args .call .guest) (c .ending .result) asked (c .ending .ensures)
+    ended-with (c .ending .result) asked (c .ending .ensures)
     (c .before .enum-told .given .1)
 
 -- and steps 12 to 14
@@ -39,7 +39,7 @@ returns-2 c =
     let at = call .before .before .before in
     let here = given (consulted (at .before .before .before .before)) (at .consulted .given .1) in
     let a = here .start .args in
-    finishes (a .call .guest) (call .insert-key .result) (c .answer-after .result) (a .storage .now)
+    finishes (call .insert-key .result) (c .answer-after .result) (a .storage .now)
     (call .insert-key .last .1 .0) (here .runs) (c .answer-after .ensures) (call .insert-key .ensures)
 
 pub insert-block-key-spec : {M : Type 1} → statement M

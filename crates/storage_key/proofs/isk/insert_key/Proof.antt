@@ -1,7 +1,7 @@
 use mathlib.Core.Path.{refl, _∙_}
 use mathlib.Core.List.{[]}
 use Rattle.rules.specs.Machine.{Machine}
-use Rattle.rules.specs.Guest.{withByte}
+use Rattle.rules.specs.declared.record_change.RecordChange.the-variants.{RegisterByte}
 use Rattle.rules.specs.Masks.{extendedIn}
 use Rattle.rules.specs.Steps.{Steps}
 use Rattle.rules.specs.Call.{r1, Completion}
@@ -32,7 +32,7 @@ returns : tie.Need-returns
 unfolding insertKey field
 returns c =
     let asked = field (c .before .before .before .before .before) in
-    ended-with (asked .start .args .call .guest) (c .ending .result) asked (c .ending .ensures)
+    ended-with (c .ending .result) asked (c .ending .ensures)
     (c .before .enum-told .given .1)
 
 abbrev vpsw : tie.After-control-halfword → Reached entry stage
@@ -55,34 +55,28 @@ returns-2 : tie.Need-returns-2
 unfolding insertKey field vpsw halfword
 returns-2 c =
     let asked = halfword (c .before .before .before) in
-    ended-with (asked .start .args .call .guest) (c .ending2 .result) asked (c .ending2 .ensures)
+    ended-with (c .ending2 .result) asked (c .ending2 .ensures)
     (c .before .enum-told2 .given .1)
 
 -- step 14
 same-length-3 : tie.Need-same-length-3
 unfolding insertKey field vpsw
 same-length-3 c =
-    let call = c .before .before .before .before .before .before .before .before .before .before .before .before in
+    let call = c .before .before .before .before .before .before .before .before .before in
     call .control-halfword .kept .1 .0 ∙ reached-keys (vpsw call)
 
 returns-3 : tie.Need-returns-3
 unfolding insertKey field vpsw halfword
 returns-3 c =
-    let at = c .before .before .before .before .before .before .before in
+    let at = c .before .before .before .before in
     let call = at .before .before .before .before .before in
     let here = given (halfword (at .before .before)) (at .halfword .given .1) in
     let a = here .start .args in
     let key = insertedKey (extendedIn (at .halfword .given .0 .0)) (virtualKey (a .page)) (a .marks) in
-    let inserted = c .before .before .before .before in
-    completes-as (a .call) (a .call .guest) (withByte (a .call .guest) (r1 (a .call)) key) (c .completed-as .result)
+    let inserted = c .before in
+    completes-as (RegisterByte key) (c .completed-as .result)
     (a .storage .now) (call .control-halfword .last .1 .0) [] (here .runs)
-    (simp (
-      c .before .length .ensures,
-      c .before .before .with-byte .ensures,
-      c .before .before .before .r1 .ensures,
-      inserted .inserted-key .ensures,
-      inserted .before .virtual-key .ensures,
-    ) at (c .completed-as .ensures))
+    (simp (inserted .inserted-key .ensures, inserted .before .virtual-key .ensures) at (c .completed-as .ensures))
     refl
 
 pub insert-key-spec : {M : Type 1} → statement M
@@ -105,9 +99,6 @@ insert-key-spec =
     (λ c κs. search needs)
     (λ c. search needs)
     returns-2
-    (λ c κs. search needs)
-    (λ c κs. search needs)
-    (λ c κs. search needs)
     (λ c κs. search needs)
     (λ c κs. search needs)
     (λ c κs. search needs)

@@ -31,7 +31,7 @@ returns : tie.Need-returns
 unfolding insertStorageKey table
 returns c =
     let asked = table (c .before .before .before .before .before) in
-    ended-with (asked .start .args .call .guest) (c .ending .result) asked (c .ending .ensures)
+    ended-with (c .ending .result) asked (c .ending .ensures)
     (c .before .enum-told .given .1)
 
 -- where the address was taken
@@ -54,7 +54,7 @@ returns-2 : tie.Need-returns-2
 unfolding insertStorageKey table way
 returns-2 c =
     let sought = way (c .before .before .before) in
-    ended-on-way (sought .start .args .call .guest) (c .ending2 .result) sought (c .ending2 .ensures)
+    ended-on-way (c .ending2 .result) sought (c .ending2 .ensures)
     (c .before .enum-told2 .given .1)
 
 abbrev page : tie.After-known-told2 → Reached entry stage
@@ -75,7 +75,7 @@ returns-3 c =
     let test = call .before .before in
     let here = page (test .before) in
     let a = here .start .args in
-    finishes (a .call .guest) (call .insert-key .result) (c .answer-after .result) (a .storage .now)
+    finishes (call .insert-key .result) (c .answer-after .result) (a .storage .now)
     (call .insert-key .last .1 .0) (chosen _ _ _ (here .runs) (test .if1 .taken)) (c .answer-after .ensures)
     (call .insert-key .ensures)
 
@@ -93,7 +93,7 @@ returns-4 c =
     let test = call .before .before in
     let here = page (test .before) in
     let a = here .start .args in
-    finishes (a .call .guest) (call .insert-block-key .result) (c .answer-after2 .result) (a .storage .now)
+    finishes (call .insert-block-key .result) (c .answer-after2 .result) (a .storage .now)
     (call .insert-block-key .last .1 .0) (rejected _ _ _ (here .runs) (test .if1 .left)) (c .answer-after2 .ensures)
     (call .insert-block-key .ensures)
 

@@ -2,7 +2,7 @@ use mathlib.Core.Path.{ap, _∙_}
 use lib.Bits.{bitOr}
 use Rattle.rules.specs.Bits.{bits}
 use Rattle.rules.specs.Machine.{Machine}
-use Rattle.rules.specs.Guest.{withCode}
+use Rattle.rules.specs.declared.record_change.RecordChange.the-variants.{ConditionCode}
 use Rattle.rules.specs.Writes.{perform, store}
 use Rattle.rules.specs.Steps.{Steps}
 use Rattle.rules.specs.Call.{Completion}
@@ -19,13 +19,13 @@ abbrev entry : tie.Start → Machine
 entry c = machine (c .args .storage .now) (c .args .keys .now)
 
 abbrev stage : tie.Start → Steps Completion
-stage c = resetBlockKey (c .args .call) (c .args .page)
+stage c = resetBlockKey (c .args .page)
 
 -- step 12: the key
 abbrev consulted : tie.After-consult-key → Asked entry stage
 unfolding resetBlockKey
 consulted c =
-    let start = c .before .before .before .before .before in
+    let start = c .before .before .before .before in
     let s = start .args .storage .now in
     asks start _ _ (begin (entry start) (stage start)) (c .consult-key .result) s (c .consult-key .last .0)
     (fresh _ _ (c .consult-key .ensures s))
@@ -34,7 +34,7 @@ returns : tie.Need-returns
 unfolding resetBlockKey consulted
 returns c =
     let asked = consulted (c .before .before .before .before .before) in
-    ended-with (asked .start .args .call .guest) (c .ending .result) asked (c .ending .ensures)
+    ended-with (c .ending .result) asked (c .ending .ensures)
     (c .before .enum-told .given .1)
 
 abbrev old : tie.After-set-key → Reached entry stage
@@ -47,14 +47,14 @@ old c =
 same-length-3 : tie.Need-same-length-3
 unfolding resetBlockKey consulted old
 same-length-3 c =
-    let put = c .before .before .before .before .before .before .before .before in
+    let put = c .before .before .before .before .before .before in
     let set = put .before .before .before .before .before .before in
     put .store-word .kept .1 .0 ∙ set .set-key .kept .0 ∙ reached-keys (old set)
 
 returns-2 : tie.Need-returns-2
 unfolding storeReset resetBlockKey consulted old
 returns-2 c =
-    let put = c .before .before .before .before .before .before .before .before in
+    let put = c .before .before .before .before .before .before in
     let set = put .before .before .before .before .before .before in
     let here = old set in
     let a = here .start .args in
@@ -62,13 +62,9 @@ returns-2 c =
     let swap = swapWith (a .page) (unreferred (virtualKey (a .page))) marks in
     let first = simp (set .before .unreferred .ensures) at (set .set-key .ensures (a .storage .now)) in
     let second = simp (put .before .reset-word .ensures) at (put .store-word .ensures) in
-    completes-as (a .call) (a .call .guest) (withCode (a .call .guest) (bitOr marks (bits 8 5 6 (virtualKey (a .page)))))
+    completes-as (ConditionCode (bitOr marks (bits 8 5 6 (virtualKey (a .page)))))
     (c .completed-as .result) (put .store-word .last .0) (put .store-word .last .1 .0) _ (here .runs)
-    (simp (
-      c .before .length .ensures,
-      c .before .before .with-code .ensures,
-      c .before .before .before .marks-with .ensures,
-    ) at (c .completed-as .ensures))
+    (simp (c .before .marks-with .ensures) at (c .completed-as .ensures))
     (second ∙ ap (λ m. perform m (store (a .page .place) 4 swap)) first)
 
 pub reset-block-key-spec : {M : Type 1} → statement M
@@ -81,8 +77,6 @@ reset-block-key-spec =
     (λ c κs. search needs)
     (λ c. search needs)
     returns
-    (λ c κs. search needs)
-    (λ c κs. search needs)
     (λ c κs. search needs)
     (λ c κs. search needs)
     (λ c κs. search needs)

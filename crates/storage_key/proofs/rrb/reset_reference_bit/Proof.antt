@@ -2,7 +2,7 @@ use mathlib.Core.Path.{_∙_}
 use lib.Bits.{bitOr}
 use Rattle.rules.specs.Bits.{bits}
 use Rattle.rules.specs.Machine.{Machine}
-use Rattle.rules.specs.Guest.{withCode}
+use Rattle.rules.specs.declared.record_change.RecordChange.the-variants.{ConditionCode}
 use Rattle.rules.specs.Steps.{Steps}
 use Rattle.rules.specs.Call.{Completion}
 use Rattle.rules.specs.SwapTables.{virtualKey}
@@ -35,7 +35,7 @@ returns : tie.Need-returns
 unfolding resetReferenceBit table
 returns c =
     let asked = table (c .before .before .before .before .before) in
-    ended-with (asked .start .args .call .guest) (c .ending .result) asked (c .ending .ensures)
+    ended-with (c .ending .result) asked (c .ending .ensures)
     (c .before .enum-told .given .1)
 
 -- step 4: the second halfword
@@ -53,7 +53,7 @@ returns-2 : tie.Need-returns-2
 unfolding resetReferenceBit table second
 returns-2 c =
     let asked = second (c .before .before .before) in
-    ended-with (asked .start .args .call .guest) (c .ending2 .result) asked (c .ending2 .ensures)
+    ended-with (c .ending2 .result) asked (c .ending2 .ensures)
     (c .before .enum-told2 .given .1)
 
 abbrev halfword : tie.After-find-page → Reached entry stage
@@ -82,7 +82,7 @@ returns-3 : tie.Need-returns-3
 unfolding resetReferenceBit table second halfword way
 returns-3 c =
     let sought = way (c .before .before .before) in
-    ended-on-way (sought .start .args .call .guest) (c .ending3 .result) sought (c .ending3 .ensures)
+    ended-on-way (c .ending3 .result) sought (c .ending3 .ensures)
     (c .before .enum-told3 .given .1)
 
 abbrev page : tie.After-known-told3 → Reached entry stage
@@ -93,24 +93,20 @@ page c = let at = c .before in found (way (at .before .before)) (at .found .give
 same-length-8 : tie.Need-same-length-8
 unfolding resetReferenceBit table second halfword way page
 same-length-8 c =
-    let put = c .before .before .before .before .before .before .before .before in
+    let put = c .before .before .before .before .before .before in
     put .store-word .kept .1 .0 ∙ reached-keys (page (put .before .before .before .before .before))
 
 returns-4 : tie.Need-returns-4
 unfolding resetReferenceBit storeReset table second halfword way page
 returns-4 c =
-    let put = c .before .before .before .before .before .before .before .before in
+    let put = c .before .before .before .before .before .before in
     let test = put .before .before .before .before in
     let here = page (test .before) in
     let g = here .start .args .call .guest in
     let p = test .before .before .found .given .0 .0 in
-    completes-as (here .start .args .call) g (withCode g (bitOr 0 (bits 8 5 6 (virtualKey p)))) (c .completed-as .result)
+    completes-as (ConditionCode (bitOr 0 (bits 8 5 6 (virtualKey p)))) (c .completed-as .result)
     (put .store-word .last .0) (put .store-word .last .1 .0) _ (chosen _ _ _ (here .runs) (test .if1 .taken))
-    (simp (
-      c .before .length .ensures,
-      c .before .before .with-code .ensures,
-      c .before .before .before .marks-with .ensures,
-    ) at (c .completed-as .ensures))
+    (simp (c .before .marks-with .ensures) at (c .completed-as .ensures))
     (simp (put .before .reset-word .ensures) at (put .store-word .ensures))
 
 -- it is valid: steps 12 and 13
@@ -126,7 +122,7 @@ returns-5 c =
     let call = c .before .before .before .before .before in
     let test = call .before .before .before in
     let here = page (test .before) in
-    finishes (here .start .args .call .guest) (call .reset-block-key .result) (c .answer-after .result)
+    finishes (call .reset-block-key .result) (c .answer-after .result)
     (call .reset-block-key .last .0) (call .reset-block-key .last .1 .0)
     (rejected _ _ _ (here .runs) (test .if1 .left)) (c .answer-after .ensures) (call .reset-block-key .ensures)
 
@@ -161,8 +157,6 @@ reset-reference-bit-spec =
     (λ c. search needs)
     same-length-6
     returns-3
-    (λ c κs. search needs)
-    (λ c κs. search needs)
     (λ c κs. search needs)
     (λ c κs. search needs)
     (λ c κs. search needs)

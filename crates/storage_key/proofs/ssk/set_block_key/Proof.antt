@@ -33,7 +33,7 @@ returns : tie.Need-returns
 unfolding setBlockKey consulted
 returns c =
     let asked = consulted (c .before .before .before .before .before) in
-    ended-with (asked .start .args .call .guest) (c .ending .result) asked (c .ending .ensures)
+    ended-with (c .ending .result) asked (c .ending .ensures)
     (c .before .enum-told .given .1)
 
 -- and step 12
@@ -49,7 +49,7 @@ returns-2 c =
     let first = simp (set .before .new-key .ensures, set .before .before .key-word .ensures) at
     (set .set-key .ensures (a .storage .now)) in
     let second = simp (put .before .swap-word .ensures) at (put .store-word .ensures) in
-    completes (a .call) (c .completed .result) (put .store-word .last .0) (put .store-word .last .1 .0) _
+    completes (c .completed .result) (put .store-word .last .0) (put .store-word .last .1 .0) _
     (here .runs) (c .completed .ensures) (second ∙ ap (λ m. perform m (store (a .page .place) 4 swap)) first)
 
 pub set-block-key-spec : {M : Type 1} → statement M

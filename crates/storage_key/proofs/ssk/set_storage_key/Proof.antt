@@ -31,7 +31,7 @@ returns : tie.Need-returns
 unfolding setStorageKey table
 returns c =
     let asked = table (c .before .before .before .before .before) in
-    ended-with (asked .start .args .call .guest) (c .ending .result) asked (c .ending .ensures)
+    ended-with (c .ending .result) asked (c .ending .ensures)
     (c .before .enum-told .given .1)
 
 -- where the address was taken
@@ -54,7 +54,7 @@ returns-2 : tie.Need-returns-2
 unfolding setStorageKey table way
 returns-2 c =
     let sought = way (c .before .before .before) in
-    ended-on-way (sought .start .args .call .guest) (c .ending2 .result) sought (c .ending2 .ensures)
+    ended-on-way (c .ending2 .result) sought (c .ending2 .ensures)
     (c .before .enum-told2 .given .1)
 
 abbrev page : tie.After-known-told2 → Reached entry stage
@@ -74,7 +74,7 @@ returns-3 c =
     let put = c .before .before .before .before .before in
     let test = put .before .before .before .before in
     let here = page (test .before) in
-    completes (here .start .args .call) (c .completed .result) (put .store-word .last .0) (put .store-word .last .1 .0)
+    completes (c .completed .result) (put .store-word .last .0) (put .store-word .last .1 .0)
     _ (chosen _ _ _ (here .runs) (test .if1 .taken)) (c .completed .ensures)
     (simp (put .before .swap-word .ensures) at (put .store-word .ensures))
 
@@ -91,7 +91,7 @@ returns-4 c =
     let call = c .before .before .before .before .before in
     let test = call .before .before .before in
     let here = page (test .before) in
-    finishes (here .start .args .call .guest) (call .set-block-key .result) (c .answer-after .result)
+    finishes (call .set-block-key .result) (c .answer-after .result)
     (call .set-block-key .last .0) (call .set-block-key .last .1 .0)
     (rejected _ _ _ (here .runs) (test .if1 .left)) (c .answer-after .ensures) (call .set-block-key .ensures)
 

@@ -15,7 +15,7 @@ use Rattle.rules.specs.StoreControl.{gather}
 use Rattle.storage.specs.declared.steps.Stepped.{Stepped}
 use Rattle.storage.specs.declared.steps.Stepped.the-variants.{Value, Stopped}
 use Rattle.storage.specs.declared.answers.Concluded.{Concluded}
-use Rattle.storage.specs.Answers.{machine, went, over, told, seen, later, finished, finish, ending}
+use Rattle.storage.specs.Answers.{machine, went, seen, later, finished, finish, ending}
 use Rattle.storage.proofs.Laws.{Runs, begin, more, goes, ends, settles, ended-by}
 use Rattle.storage.proofs.Stages.{Reached, Asked, reached, ended}
 use Rattle.control.specs.Gathered.{Gathered, gatheredBy, gathered}

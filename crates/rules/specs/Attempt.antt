@@ -95,15 +95,15 @@ answered e g rs m = record {
   after = m;
 }
 
--- completion moves the instruction address on by the instruction's length
-abbrev pub completed : Call → RecordChange → Guest
-completed c change = advance (changed c change) (lengthOf (operationByte c))
+-- the record that completion hands back: its instruction address is moved on by the instruction's length
+abbrev pub handedBack : Call → RecordChange → Guest
+handedBack c change = advance (changed c change) (lengthOf (operationByte c))
 
 -- what was recorded by reading stays; completion makes the writes, and every other ending none
 abbrev pub conclude : Machine → Call → List Reference → Outcome Completion → Result
 conclude m c rs (ended e) = answered e (c .guest) rs (notedAll m rs)
 conclude m c rs (gave k) =
-    answered Completed (completed c (k .change)) (rs ++ map entry (k .writes)) (performAll (notedAll m rs) (k .writes))
+    answered Completed (handedBack c (k .change)) (rs ++ map entry (k .writes)) (performAll (notedAll m rs) (k .writes))
 
 abbrev pub reading : Machine → Call → Run Completion
 reading m c = run (program (length (m .storage)) (length (m .keys)) c) m

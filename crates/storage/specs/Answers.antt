@@ -73,8 +73,8 @@ pub record Finished : Type 0 where
 abbrev pub finished : Concluded → (storage keys : List ℕ) → Finished
 finished answer storage keys = record { answer = answer; after = machine storage keys }
 
--- what `conclude` of the rules makes of a run, here of what is seen of it, and short of the record: completion makes the
--- writes
+-- what `conclude` of the rules makes of a run, here of what is seen of it, and short of the record: completion makes
+-- the writes
 abbrev pub finish : View Completion → Finished
 finish x = by (x .outcome) (x .count) (x .left)
   where

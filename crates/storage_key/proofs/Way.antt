@@ -9,7 +9,7 @@ use Rattle.rules.specs.Machine.{Machine}
 use Rattle.rules.specs.Steps.{Steps, _>>=_}
 use Rattle.rules.specs.Call.{Completion}
 use Rattle.storage.specs.declared.steps.Stepped.the-variants as step
-use Rattle.storage.specs.Answers.{machine, seen, finished, finish}
+use Rattle.storage.specs.Answers.{seen, finished, finish}
 use Rattle.storage.proofs.Laws.{more, Runs, goes, ends}
 use Rattle.storage.proofs.Stages.{Reached, Asked, reached, ended}
 use Rattle.storage_key.specs.Way.{

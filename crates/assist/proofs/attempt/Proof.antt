@@ -1,5 +1,5 @@
 use Prim.Native.Nat.{_≤_}
-use mathlib.Core.Path.{_≡_, sym, ap, _∙_, subst}
+use mathlib.Core.Path.{sym, ap, _∙_, subst}
 use Rattle.operations.specs.Operations.{lengthOf, beginsAssisted}
 use Rattle.rules.specs.declared.call.Call.{Call}
 use Rattle.rules.specs.Endings.{numbers}

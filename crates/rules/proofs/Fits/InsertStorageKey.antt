@@ -1,16 +1,16 @@
 -- INSERT STORAGE KEY: how it can end, and at most 8 references.
-use Prim.Native.Nat.{ℕ, zero, suc, _+_, _*_, _≤_, _<_}
+use Prim.Native.Nat.{ℕ, _+_, _*_, _≤_}
 use native.Mathlib.Omega.{arith}
-use mathlib.Core.Path.{_≡_, refl, sym, ap, _∙_}
+use mathlib.Core.Path.{_≡_, refl, ap, _∙_}
 use mathlib.Core.Bool.{Bool, true, false}
-use mathlib.Core.List.{List, []}
+use mathlib.Core.List.{List}
 use lib.ListN.{length, getD, set}
 use lib.Dec.{ltb}
 use lib.Seq.{set-out, set-set, getD-set-same}
 use borrow.Author.Tests.{ltb-true, ltb-false}
 use Rattle.operations.specs.Operations.{lengthOf}
 use Rattle.rules.specs.Bits.{bits, word}
-use Rattle.rules.specs.Guest.{Guest, advance, withByte}
+use Rattle.rules.specs.Guest.{advance, withByte}
 use Rattle.rules.specs.Endings.{FieldMissing}
 use Rattle.rules.specs.Call.{Call, operationByte, r1}
 use Rattle.rules.specs.SwapTables.{FoundPage, places, assistsKeys, segmentTable, findPage}
@@ -68,7 +68,8 @@ twice l r byte = go (ltb r (length l)) refl
 advanced : (c : Call) (byte : ℕ) → Advanced 0x09 c (withByte (c .guest) (r1 c) byte)
 advanced c byte =
     let g = c .guest in
-    ap (λ l. record { psw = advance g (lengthOf (operationByte c)) .psw; general = l; cr0 = g .cr0; cr1 = g .cr1; cr6 = g .cr6 })
+    let psw = advance g (lengthOf (operationByte c)) .psw in
+    ap (λ l. record { psw = psw; general = l; cr0 = g .cr0; cr1 = g .cr1; cr6 = g .cr6 })
     (twice (g .general) (r1 c) byte)
 
 -- ---- the instruction

@@ -6,7 +6,7 @@ use mathlib.Core.List.{[]}
 use Rattle.operations.specs.Operations.{lengthOf}
 use Rattle.rules.specs.Bits.{bits}
 use Rattle.rules.specs.Machine.{_⊕_}
-use Rattle.rules.specs.Guest.{instructionAddress, assistsControl, effective, advance, withCode}
+use Rattle.rules.specs.Guest.{instructionAddress, assistsControl, effective, withCode}
 use Rattle.rules.specs.Steps.{Steps, branch, _>>=_}
 use Rattle.rules.specs.Access.{secondHalfword}
 use Rattle.rules.specs.Call.{Call, operationByte, Completion}

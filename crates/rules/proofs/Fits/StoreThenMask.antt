@@ -1,10 +1,9 @@
 -- STORE THEN AND and STORE THEN OR SYSTEM MASK: how they can end, and at most 11 references.
 use Prim.Native.Nat.{ℕ}
 use native.Mathlib.Omega.{arith}
-use mathlib.Core.Path.{_≡_, refl, sym, ap}
-use lib.ListN.{length}
+use mathlib.Core.Path.{_≡_, refl, ap}
 use Rattle.rules.specs.Machine.{_⊕_}
-use Rattle.rules.specs.Guest.{Guest, advance, effective, instructionAddress}
+use Rattle.rules.specs.Guest.{Guest, effective, instructionAddress}
 use Rattle.rules.specs.Endings.{Completed, Expanded, FieldMissing, refuse}
 use Rattle.rules.specs.Steps.{_>>=_, fetchBytes, stopIf, endingAs}
 use Rattle.rules.specs.Access.{secondHalfword}

@@ -49,7 +49,9 @@ concluded m c rs (ended e) h r = record {
 concluded m c rs (gave k) h r = record {
   possible = h .1 .possible;
   untouched = λ n. absurd (n refl);
-  advanced = λ z. h .1 .advanced ∙ ap (λ n. withoutResult (operation c) c (advance (c .guest) n)) (length-by-code c (h .1 .possible));
+  advanced = λ z.
+      h .1 .advanced
+      ∙ ap (λ n. withoutResult (operation c) c (advance (c .guest) n)) (length-by-code c (h .1 .possible));
 }
 
 pub every-call-answered : EveryCallAnswered

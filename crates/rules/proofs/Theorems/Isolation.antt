@@ -65,7 +65,8 @@ module _ (p q : Part) (wp : WholeBlocks p) (wq : WholeBlocks q) (a b c : Machine
         (put-bytes p q a call rs o h) (t .bytes));
     keys =
         let size = length (c .keys) in
-        keys-done p q (a .keys) (b .keys) (c .keys) (conclude a call rs o .after .keys) (conclude c call rs o .after .keys)
+        keys-done p q (a .keys) (b .keys) (c .keys) (conclude a call rs o .after .keys)
+        (conclude c call rs o .after .keys)
         (λ k. touched k (conclude a call rs o .references)) (λ k. effect size k rs o)
         (λ k. acts-effect p q wp wq size k a call rs o h) (concluded-length a call rs o) (concluded-length c call rs o)
         (λ k. concluded-at a call rs o k ∙ ap (λ n. effect n k rs o (getD (a .keys) k 0)) (sym (t .keys .first)))

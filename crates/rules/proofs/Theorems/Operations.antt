@@ -8,7 +8,7 @@ use lib.Dec.{eqb}
 use borrow.Author.Tests.{eqb-true, ne-eqb}
 use Rattle.operations.specs.Operations.{lengthOf, beginsAssisted}
 use Rattle.operations.proofs.Junctions.{either-true}
-use Rattle.rules.specs.Call.{Call, operationByte}
+use Rattle.rules.specs.Call.{operationByte}
 use Rattle.rules.specs.Theorems.Answers.{instructionLength}
 use Rattle.rules.specs.Theorems.Operations.{assistedCode, TableAsByCode}
 

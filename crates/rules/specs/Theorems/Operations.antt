@@ -1,6 +1,6 @@
--- Document 02, R-5: with the table over the operation byte no answer changes. Whether a call is assisted, and how far its
--- completion moves the address, is for every call as it was by the operation code, before there was a table. (That the
--- table is by its rule at all 256 bytes is what `operations::length_of` and `operations::begins_assisted` promise.)
+-- Document 02, R-5: with the table over the operation byte no answer changes. Whether a call is assisted, and how far
+-- its completion moves the address, is for every call as it was by the operation code, before there was a table. (That
+-- the table is by its rule at all 256 bytes is what `operations::operation_of` promises.)
 use Prim.Native.Nat.{ℕ}
 use mathlib.Core.Path.{_≡_}
 use mathlib.Core.Bool.{Bool, true, _||_}

@@ -4,7 +4,7 @@ use Rattle.rules.specs.Machine.{Machine}
 use Rattle.rules.specs.declared.record_change.RecordChange.the-variants.{RegisterByte}
 use Rattle.rules.specs.Masks.{extendedIn}
 use Rattle.rules.specs.Steps.{Steps}
-use Rattle.rules.specs.Call.{r1, Completion}
+use Rattle.rules.specs.Call.{Completion}
 use Rattle.rules.specs.SwapTables.{virtualKey}
 use Rattle.rules.specs.InsertStorageKey.{insertedKey, insertKey}
 use Rattle.storage.specs.Answers.{machine}

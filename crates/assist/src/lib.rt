@@ -72,8 +72,7 @@ fn program(storage: &mut [u8], keys: &mut [u8], call: Call, marked: bool) -> Con
     requires { ⌜ marked ≡ beginsAssisted (operationByte call) ⌝ }
     ensures { λ r. ⌜
         finished r (now (storage .exit)) (now (keys .exit))
-        ≡ finish
-        (seen (program (length (now (storage .entry))) (length (now (keys .entry))) call)
+        ≡ finish (seen (program (length (now (storage .entry))) (length (now (keys .entry))) call)
         (machine (now (storage .entry)) (now (keys .entry))))
         ⌝ }
 {

@@ -31,8 +31,7 @@ fn insert_key(
     requires { ⌜ (tried < 256) × (marks < 4) ⌝ }
     ensures { λ r. ⌜
         finished r (now (storage .entry)) (now (keys .exit))
-        ≡ finish
-        (seen (insertKey call page tried marks) (machine (now (storage .entry)) (now (keys .entry))))
+        ≡ finish (seen (insertKey call page tried marks) (machine (now (storage .entry)) (now (keys .entry))))
         ⌝ }
 {
     let guest = call.guest;
@@ -56,8 +55,7 @@ fn insert_key(
 fn insert_block_key(storage: &[u8], keys: &mut [u8], call: Call, page: FoundPage) -> Concluded
     ensures { λ r. ⌜
         finished r (now (storage .entry)) (now (keys .exit))
-        ≡ finish
-        (seen (insertBlockKey call page) (machine (now (storage .entry)) (now (keys .entry))))
+        ≡ finish (seen (insertBlockKey call page) (machine (now (storage .entry)) (now (keys .entry))))
         ⌝ }
 {
     let missing = Ending::FieldMissing(6);
@@ -71,8 +69,7 @@ fn insert_block_key(storage: &[u8], keys: &mut [u8], call: Call, page: FoundPage
 pub fn insert_storage_key(storage: &[u8], keys: &mut [u8], call: Call) -> Concluded
     ensures { λ r. ⌜
         finished r (now (storage .entry)) (now (keys .exit))
-        ≡ finish
-        (seen (insertStorageKey call) (machine (now (storage .entry)) (now (keys .entry))))
+        ≡ finish (seen (insertStorageKey call) (machine (now (storage .entry)) (now (keys .entry))))
         ⌝ }
 {
     let guest = call.guest;

@@ -22,8 +22,7 @@ use storage::Stepped;
 fn reset_block_key(storage: &mut [u8], keys: &mut [u8], page: FoundPage) -> Concluded
     ensures { λ r. ⌜
         finished r (now (storage .exit)) (now (keys .exit))
-        ≡ finish
-        (seen (resetBlockKey page) (machine (now (storage .entry)) (now (keys .entry))))
+        ≡ finish (seen (resetBlockKey page) (machine (now (storage .entry)) (now (keys .entry))))
         ⌝ }
 {
     let block = page.block;
@@ -42,8 +41,7 @@ fn reset_block_key(storage: &mut [u8], keys: &mut [u8], page: FoundPage) -> Conc
 pub fn reset_reference_bit(storage: &mut [u8], keys: &mut [u8], call: Call) -> Concluded
     ensures { λ r. ⌜
         finished r (now (storage .exit)) (now (keys .exit))
-        ≡ finish
-        (seen (resetReferenceBit call) (machine (now (storage .entry)) (now (keys .entry))))
+        ≡ finish (seen (resetReferenceBit call) (machine (now (storage .entry)) (now (keys .entry))))
         ⌝ }
 {
     let guest = call.guest;

@@ -23,8 +23,7 @@ use storage::Stepped;
 fn set_block_key(storage: &mut [u8], keys: &mut [u8], call: Call, page: FoundPage) -> Concluded
     ensures { λ r. ⌜
         finished r (now (storage .exit)) (now (keys .exit))
-        ≡ finish
-        (seen (setBlockKey call page) (machine (now (storage .entry)) (now (keys .entry))))
+        ≡ finish (seen (setBlockKey call page) (machine (now (storage .entry)) (now (keys .entry))))
         ⌝ }
 {
     let block = page.block;

@@ -14,6 +14,7 @@ use crate::tables::segment_table;
 use rules::Call;
 use rules::Ending;
 use rules::FoundPage;
+use rules::Guest;
 use rules::KeyUse;
 use rules::RecordChange;
 use storage::Concluded;
@@ -23,7 +24,7 @@ use storage::Stepped;
 fn insert_key(
     storage: &[u8],
     keys: &mut [u8],
-    call: Call,
+    guest: Guest,
     page: FoundPage,
     tried: u32,
     marks: u32,
@@ -31,10 +32,9 @@ fn insert_key(
     requires { ⌜ (tried < 256) × (marks < 4) ⌝ }
     ensures { λ r. ⌜
         finished r (now (storage .entry)) (now (keys .exit))
-        ≡ finish (seen (insertKey call page tried marks) (machine (now (storage .entry)) (now (keys .entry))))
+        ≡ finish (seen (insertKey guest page tried marks) (machine (now (storage .entry)) (now (keys .entry))))
         ⌝ }
 {
-    let guest = call.guest;
     // 12
     let field = access::micblok_word(storage, keys, tried + 1, access::MICVPSW, guest);
     let Stepped::Value(vpsw, count_12) = field else {
@@ -52,10 +52,10 @@ fn insert_key(
 }
 
 // Step 11 on a valid page, and steps 12 to 14.
-fn insert_block_key(storage: &[u8], keys: &mut [u8], call: Call, page: FoundPage) -> Concluded
+fn insert_block_key(storage: &[u8], keys: &mut [u8], guest: Guest, page: FoundPage) -> Concluded
     ensures { λ r. ⌜
         finished r (now (storage .entry)) (now (keys .exit))
-        ≡ finish (seen (insertBlockKey call page) (machine (now (storage .entry)) (now (keys .entry))))
+        ≡ finish (seen (insertBlockKey guest page) (machine (now (storage .entry)) (now (keys .entry))))
         ⌝ }
 {
     let missing = Ending::FieldMissing(6);
@@ -63,7 +63,10 @@ fn insert_block_key(storage: &[u8], keys: &mut [u8], call: Call, page: FoundPage
     let Stepped::Value(key, count) = consulted else {
         return consulted.ending();
     };
-    storage::answer_after(insert_key(storage, keys, call, page, 6, key / 2 % 4), count)
+    storage::answer_after(
+        insert_key(storage, keys, guest, page, 6, key / 2 % 4),
+        count,
+    )
 }
 
 pub fn insert_storage_key(storage: &[u8], keys: &mut [u8], call: Call) -> Concluded
@@ -86,7 +89,7 @@ pub fn insert_storage_key(storage: &[u8], keys: &mut [u8], call: Call) -> Conclu
     };
     // 11: on an invalid page no key is tried
     if page.invalid {
-        return storage::answer_after(insert_key(storage, keys, call, page, 5, 0), count);
+        return storage::answer_after(insert_key(storage, keys, guest, page, 5, 0), count);
     }
-    storage::answer_after(insert_block_key(storage, keys, call, page), count)
+    storage::answer_after(insert_block_key(storage, keys, guest, page), count)
 }

@@ -75,12 +75,12 @@ advanced c byte =
 -- ---- the instruction
 
 insertKey-fits : (c : Call) (p : FoundPage) (tried marks : ℕ) → Stops 0x09 (FieldMissing (tried + 1))
-    → Stops 0x09 (FieldMissing (tried + 2)) → Fits 0x09 c (insertKey c p tried marks) 2
+    → Stops 0x09 (FieldMissing (tried + 2)) → Fits 0x09 c (insertKey (c .guest) p tried marks) 2
 unfolding fetching insertKey
 insertKey-fits c p tried marks h k =
     (h, λ vpsw. (k, λ first. completes refl (advanced c _) (omega arith)))
 
-insertBlockKey-fits : (c : Call) (p : FoundPage) → Fits 0x09 c (insertBlockKey c p) 3
+insertBlockKey-fits : (c : Call) (p : FoundPage) → Fits 0x09 c (insertBlockKey (c .guest) p) 3
 unfolding fetching insertBlockKey
 insertBlockKey-fits c p =
     (stops refl refl refl, λ key. insertKey-fits c p _ _ (stops refl refl refl) (stops refl refl refl))
@@ -92,7 +92,7 @@ insertStorageKey-fits c =
     (segmentTable-within 0x09 places way _ (c .guest))
     (λ rseg. fits-then 0x09 c (findPage places rseg _) _ 4 3 7 (omega arith) (findPage-within 0x09 places way rseg _)
     (λ p. (
-      λ t. within-more (Stops 0x09) (Completes 0x09 c) (completes-more 0x09 c) (insertKey c p _ 0) 2 3 (omega arith)
-          (insertKey-fits c p _ 0 (stops refl refl refl) (stops refl refl refl)),
+      λ t. within-more (Stops 0x09) (Completes 0x09 c) (completes-more 0x09 c) (insertKey (c .guest) p _ 0) 2 3
+          (omega arith) (insertKey-fits c p _ 0 (stops refl refl refl) (stops refl refl refl)),
       λ t. insertBlockKey-fits c p,
     )))

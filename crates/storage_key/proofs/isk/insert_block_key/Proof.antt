@@ -13,7 +13,7 @@ abbrev entry : tie.Start → Machine
 entry c = machine (c .args .storage .now) (c .args .keys .now)
 
 abbrev stage : tie.Start → Steps Completion
-stage c = insertBlockKey (c .args .call) (c .args .page)
+stage c = insertBlockKey (c .args .guest) (c .args .page)
 
 -- step 11: the key
 abbrev consulted : tie.After-consult-key → Asked entry stage

@@ -18,13 +18,13 @@ abbrev entry : tie.Start → Machine
 entry c = machine (c .args .storage .now) (c .args .keys .now)
 
 abbrev stage : tie.Start → Steps Completion
-stage c = insertKey (c .args .call) (c .args .page) (c .args .tried) (c .args .marks)
+stage c = insertKey (c .args .guest) (c .args .page) (c .args .tried) (c .args .marks)
 
 -- step 12: MICVPSW
 abbrev field : tie.After-micblok-word → Asked entry stage
 unfolding insertKey
 field c =
-    let start = c .before .before .before .before .before in
+    let start = c .before .before .before .before in
     asks start _ _ (begin (entry start) (stage start)) (c .micblok-word .result) (start .args .storage .now)
     (c .micblok-word .last .1 .0) (fresh _ _ (c .micblok-word .ensures))
 

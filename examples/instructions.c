@@ -1,5 +1,5 @@
 /*
- * A guest's storage with its control blocks and tables; then each of the seven instructions, and four calls that end
+ * A guest's storage with its control blocks and tables; then each of the eight instructions, and four calls that end
  * otherwise. What happened is printed in words; instructions.expected has what must be, worked out by hand.
  */
 #include "vma.h"
@@ -17,8 +17,10 @@ enum {
     SEGMENT_TABLE = 0x800,
     PAGE_TABLE = 0xC10, /* the word before it has the address of the swap table */
     SWAP_TABLE = 0xD00,
-    CODE = 0x1000,    /* frame of the guest's page 3 */
-    OPERANDS = 0x2000 /* frame of the guest's page 2 */
+    CODE = 0x1000,         /* frame of the guest's page 3 */
+    OPERANDS = 0x2000,     /* frame of the guest's page 2 */
+    GUEST_SEGMENTS = 0x2100, /* the guest's own tables, in its page 2: virtual addresses, and here real ones too */
+    GUEST_PAGES = 0x2180
 };
 
 static uint8_t storage[STORAGE_BYTES], keys[KEY_COUNT];
@@ -51,15 +53,20 @@ static void set_up(void)
         0x0834,         /* 003010 SSK   3,4 */
         0x0964,         /* 003012 ISK   6,4 */
         0xB213, 0x4000, /* 003014 RRB   0(4) */
-        0xB655, 0x5000, /* 003018 STCTL 5,5,0(5) */
-        0x8000, 0x2040  /* 00301C SSM   64(2) */
+        0xB170, 0x8000, /* 003018 LRA   7,0(8) */
+        0xB655, 0x5000, /* 00301C STCTL 5,5,0(5) */
+        0x8000, 0x2040  /* 003020 SSM   64(2) */
     };
     put_word(MICBLOK, SEGMENT_TABLE);   /* MICRSEG: length 0, 64K segments */
     put_word(MICBLOK + 4, ECBLOK);      /* MICCREG */
     put_word(MICBLOK + 8, VIRTUAL_PSW); /* MICVPSW: nothing pending */
-    put_word(ECBLOK, 0x800000E0);       /* virtual control register 0: bit 1 zero, so that SSM is assisted */
-    for (uint32_t r = 1; r < 16; r++)
+    put_word(ECBLOK, 0x808000E0);       /* virtual control register 0: bit 1 zero, so that SSM is assisted; and for
+                                           LRA, in bits 8-12, 4K pages and 64K segments */
+    put_word(ECBLOK + 4, GUEST_SEGMENTS); /* virtual control register 1 */
+    for (uint32_t r = 2; r < 16; r++)
         put_word(ECBLOK + 4 * r, 0x01010101 * r);
+    put_word(GUEST_SEGMENTS + 4 * 1, 0x20000000 | GUEST_PAGES); /* segment 1: three pages */
+    put_halfword(GUEST_PAGES + 2 * 2, 0x7890);                  /* page 2 in the guest's frame 789 */
     put_word(VIRTUAL_PSW, 0x04080000); /* mask 04, EC mode */
     put_word(SEGMENT_TABLE, 0xF0000000 | PAGE_TABLE);
     put_word(PAGE_TABLE - 4, SWAP_TABLE);
@@ -86,7 +93,7 @@ static void print_answer(const char *name, uint32_t address, uint64_t answer)
     printf("; %u references\n", vma_count(answer));
 }
 
-/* What ISK and RRB leave in the record. */
+/* What ISK, RRB and LRA leave in the record. */
 static void print_results(const uint32_t guest[21], const uint32_t before[21])
 {
     for (unsigned r = 0; r < 16; r++)
@@ -135,6 +142,8 @@ int main(void)
     guest[VMA_GENERAL + 4] = 0x00003000; /* SSK, ISK and RRB: the address */
     guest[VMA_GENERAL + 5] = 0x00005000; /* page 5 is invalid */
     guest[VMA_GENERAL + 6] = 0xABCDEF00; /* ISK: the result */
+    guest[VMA_GENERAL + 7] = 0xABCDEF00; /* LRA: the result */
+    guest[VMA_GENERAL + 8] = 0x00012345; /* LRA: the address, in segment 1, page 2 */
     guest[VMA_CONTROL_0] = 0x00800000;
     guest[VMA_CONTROL_1] = SEGMENT_TABLE;
     guest[VMA_CONTROL_6] = 0x80000000 | MICBLOK;
@@ -146,8 +155,9 @@ int main(void)
     run("SSK", guest);
     run("ISK", guest);
     run("RRB", guest);
+    run("LRA", guest);
     run("STCTL", guest);             /* a page of the operand isn't there: the guest is interrupted */
-    guest[VMA_PSW_32_63] = 0x00301C; /* as after the interruption; now SSM would turn the virtual mask's bit 5 off */
+    guest[VMA_PSW_32_63] = 0x003020; /* as after the interruption; now SSM would turn the virtual mask's bit 5 off */
     run("SSM", guest);               /* the expanded assist is installed, but not switched on */
     guest[VMA_CONTROL_6] |= 0x02000000; /* bit 6 switches it on */
     run("SSM", guest);

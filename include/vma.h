@@ -1,7 +1,7 @@
 /*
  * The virtual-machine assist of System/370 (IBM manual GA22-7074): one attempt at SET SYSTEM MASK (80), STORE CONTROL
- * (B6), STORE THEN AND SYSTEM MASK (AC), STORE THEN OR SYSTEM MASK (AD), SET STORAGE KEY (08), INSERT STORAGE KEY (09)
- * or RESET REFERENCE BIT (B213) for a guest; and a trail, in which attempts are written down.
+ * (B6), STORE THEN AND SYSTEM MASK (AC), STORE THEN OR SYSTEM MASK (AD), SET STORAGE KEY (08), INSERT STORAGE KEY (09),
+ * RESET REFERENCE BIT (B213) or LOAD REAL ADDRESS (B1) for a guest; and a trail, in which attempts are written down.
  *
  * Link with libvma.a. docs/MANUAL.md has the rules, and what is proved of these functions.
  * Bit 0 is leftmost, numbers in storage are big-endian, and addresses are of 24 bits.
@@ -32,7 +32,7 @@ extern "C" {
 /*
  * 21 words, in the byte order of the machine that runs the emulator. Of the PSW these bits count: 5 (translation on),
  * 8-11 (key), 12 (EC mode), 15 (problem state) and 40-63 (the address of this instruction); no other bit matters.
- * RESET REFERENCE BIT sets bits 18-19, the condition code.
+ * RESET REFERENCE BIT and LOAD REAL ADDRESS set bits 18-19, the condition code.
  */
 enum {
     VMA_PSW_0_31 = 0,        /* real PSW, bits 0-31 */
@@ -58,7 +58,8 @@ enum {
  * Every call is answered, whatever the sizes, bytes, keys, words and halfword are: the answer says how it ended. On
  * completion (VMA_COMPLETED) the instruction's stores and its setting of a key are done, and guest holds the record
  * handed back: the instruction address is moved on by the instruction's length, modulo 2^24; INSERT STORAGE KEY has set
- * bits 24-31 of the register that its R1 field names, RESET REFERENCE BIT the condition code; nothing else is changed.
+ * bits 24-31 of the register that its R1 field names, RESET REFERENCE BIT the condition code, LOAD REAL ADDRESS the
+ * condition code and the register that its R1 field names; nothing else is changed.
  * On every other ending storage and guest are as they were, and so are the keys but for reference bits.
  *
  * References are recorded in the keys as they are made: a fetch sets the reference bit (5, value 04) of every block of
@@ -83,12 +84,12 @@ enum {
     VMA_INTERRUPTION = 1,        /* program interruption: vma_code is the interruption code */
     VMA_EXPANDED = 2,            /* handed to the expanded assist, which is installed and switched on */
     VMA_FIELD_MISSING = 3,       /* a control field, or the page's key block, is not in storage: vma_code is the step;
-                                    with 09 and B213 the place, from 1, among these as they were tried */
+                                    with 09, B213 and B1 the place, from 1, among these as they were tried */
     VMA_WRONG_MODE = 9,          /* real PSW bit 12 or bit 15 is zero */
     VMA_WRONG_STORAGE_SIZE = 10, /* not a multiple of 2,048, or outside 2,048 to 16,777,216 */
     VMA_WRONG_KEY_COUNT = 11,    /* not one key for each 2,048 bytes */
     VMA_ODD_ADDRESS = 12,        /* the instruction address is odd */
-    VMA_NOT_ASSISTED = 13        /* the operation code is none of the seven */
+    VMA_NOT_ASSISTED = 13        /* the operation code is none of the eight */
 };
 
 /* The interruption codes. */

@@ -1,5 +1,5 @@
-//! `vma demo`: the edges of document 01, those of ISK and RRB, of recording and of low-address protection, through the
-//! library, and whether the second program says the same.
+//! `vma demo`: the edges of document 01, those of ISK and RRB, of LRA, of recording and of low-address protection,
+//! through the library, and whether the second program says the same.
 
 use std::ffi::OsString;
 
@@ -8,7 +8,7 @@ use second::Instruction;
 
 use crate::changes;
 use crate::command::{self, unknown, Action, Command, Failure, Report};
-use crate::record;
+use crate::record::{self, Record};
 use crate::sides::{self, Made};
 use crate::words;
 
@@ -17,11 +17,12 @@ pub const COMMAND: Command = Command { name: "demo", help: HELP, action: Action:
 const HELP: &str = "usage: vma demo
 
 Runs the edges of document 01 (section \"Edges to show\"), its wrong turns, and the edges of ISK and RRB, of
-reference and change recording and of low-address protection (document 02, R-4, R-13 and R-6) through the
-proved library, and prints for each what comes of it: the ending, the count of references, the next
-instruction address, of ISK register R1 and of RRB the condition code, and the bytes and keys that changed,
-old -> new. (*) marks the edges of document 01 that are also proved, as one table. Addresses, registers, bytes
-and keys are hex; endings, codes, steps, places, counts, register and block numbers are decimal.
+LRA, of reference and change recording and of low-address protection (document 02, R-4, R-9, R-13 and R-6)
+through the proved library, and prints for each what comes of it: the ending, the count of references, the
+next instruction address, of ISK and LRA register R1, of RRB and LRA the condition code, and the bytes and
+keys that changed, old -> new. (*) marks the edges of document 01 that are also proved, as one table.
+Addresses, registers, bytes and keys are hex; endings, codes, steps, places, counts, register and block
+numbers are decimal.
 
 Each answer is compared with the second program's: its numbers, the record, every byte and every key. If one
 differs, it is said where, and the status is 1.
@@ -62,6 +63,7 @@ fn heading(instruction: Option<Instruction>) -> String {
         Instruction::SetStorageKey => "SET STORAGE KEY",
         Instruction::InsertStorageKey => "INSERT STORAGE KEY",
         Instruction::ResetReferenceBit => "RESET REFERENCE BIT",
+        Instruction::LoadRealAddress => "LOAD REAL ADDRESS",
     };
     let code = match instruction {
         Instruction::ResetReferenceBit => format!("{:04X}", instruction.first_halfword(0)),
@@ -78,7 +80,8 @@ fn show(edge: &Edge) -> (String, bool) {
     let first_halfword = edge.request.first_halfword;
     let differences = sides::differences(&library, &second, first_halfword);
     let mark = if edge.marked { "(*) " } else { "" };
-    let mut lines = vec![format!("  {mark}{}", edge.case), format!("      {}", answer_line(&library, first_halfword))];
+    let mut lines =
+        vec![format!("  {mark}{}", edge.case), format!("      {}", answer_line(&library, first_halfword))];
     let changes = changes::place_lines(&before, &library.after, changes::changed);
     lines.extend(changes.iter().map(|line| format!("      {line}")));
     lines.extend(differences.iter().map(|line| format!("      DIFFERS: {line}")));
@@ -92,17 +95,26 @@ fn answer_line(made: &Made, first_halfword: u16) -> String {
     format!("{ending}; {references}; next instruction address {next:06X}{}", result(made, first_halfword))
 }
 
-/// What ISK and RRB give, as the record handed back has it.
+/// What ISK, RRB and LRA give, as the record handed back has it.
 fn result(made: &Made, first_halfword: u16) -> String {
     let record = &made.after.record;
     match Instruction::of_first_halfword(first_halfword) {
-        Some(Instruction::InsertStorageKey) => {
-            let r1 = usize::from(first_halfword >> 4 & 0xF);
-            format!("; {} {:08X}", record::name(2 + r1), record[2 + r1])
+        Some(Instruction::InsertStorageKey) => result_register(record, first_halfword),
+        Some(Instruction::ResetReferenceBit) => condition_code(record),
+        Some(Instruction::LoadRealAddress) => {
+            result_register(record, first_halfword) + &condition_code(record)
         }
-        Some(Instruction::ResetReferenceBit) => format!("; condition code {}", record::condition_code(record)),
         _ => String::new(),
     }
+}
+
+fn result_register(record: &Record, first_halfword: u16) -> String {
+    let r1 = usize::from(first_halfword >> 4 & 0xF);
+    format!("; {} {:08X}", record::name(2 + r1), record[2 + r1])
+}
+
+fn condition_code(record: &Record) -> String {
+    format!("; condition code {}", record::condition_code(record))
 }
 
 fn conclusion(edges: usize, differing: usize) -> String {

@@ -17,7 +17,9 @@ pub fn ending(answer: Answer, first_halfword: u16) -> String {
 
 fn step_or_place(first_halfword: u16) -> &'static str {
     match Instruction::of_first_halfword(first_halfword) {
-        Some(Instruction::InsertStorageKey | Instruction::ResetReferenceBit) => "place",
+        Some(
+            Instruction::InsertStorageKey | Instruction::ResetReferenceBit | Instruction::LoadRealAddress,
+        ) => "place",
         _ => "step",
     }
 }
@@ -33,7 +35,7 @@ pub fn kind(number: u8, code: u16) -> String {
         10 => "storage is not a multiple of 2,048 bytes from 2,048 to 16,777,216",
         11 => "number of keys is not storage / 2,048",
         12 => "instruction address is odd",
-        13 => "operation code is none of the seven",
+        13 => "operation code is none of the eight",
         _ => "(no ending has this number)",
     };
     format!("{number} {meaning}")
@@ -96,14 +98,14 @@ mod tests {
         assert_eq!(words(10, 0, 0), "10 storage is not a multiple of 2,048 bytes from 2,048 to 16,777,216");
         assert_eq!(words(11, 0, 0), "11 number of keys is not storage / 2,048");
         assert_eq!(words(12, 0, 0), "12 instruction address is odd");
-        assert_eq!(words(13, 0, 0), "13 operation code is none of the seven");
+        assert_eq!(words(13, 0, 0), "13 operation code is none of the eight");
     }
 
     #[test]
     fn places_of_two_instructions() {
         let missing = Answer { ending: 3, code_or_step: 6, count: 5, logical_address: 0 };
         let ending = |first| super::ending(missing, first);
-        for first in [0x0934, 0xB213] {
+        for first in [0x0934, 0xB213, 0xB130] {
             assert_eq!(ending(first), "3 control field or key block not in storage, place 6");
         }
         for first in [0x8000, 0xB601, 0xACFF, 0xAD00, 0x0834, 0xB212, 0x0A00] {

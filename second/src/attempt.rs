@@ -3,6 +3,7 @@
 use crate::ending::Ending;
 use crate::guest::Guest;
 use crate::insert_storage_key::insert_storage_key;
+use crate::load_real_address::load_real_address;
 use crate::machine::Machine;
 use crate::references::{Reference, References};
 use crate::reset_reference_bit::reset_reference_bit;
@@ -14,7 +15,7 @@ use crate::store_then_mask::{store_then_mask, Connective};
 /// RRB is the one code of B2 that is assisted.
 const RESET_REFERENCE_BIT: u16 = 0xB213;
 
-/// The five instructions of document 01, and the two of document 02, R-4.
+/// The five instructions of document 01, the two of document 02, R-4, and that of R-9.
 #[derive(Clone, Copy, Debug, PartialEq, Eq, PartialOrd, Ord)]
 pub enum Instruction {
     SetSystemMask,
@@ -24,10 +25,11 @@ pub enum Instruction {
     SetStorageKey,
     InsertStorageKey,
     ResetReferenceBit,
+    LoadRealAddress,
 }
 
 impl Instruction {
-    pub const ALL: [Instruction; 7] = [
+    pub const ALL: [Instruction; 8] = [
         Instruction::SetSystemMask,
         Instruction::StoreControl,
         Instruction::StoreThenAnd,
@@ -35,6 +37,7 @@ impl Instruction {
         Instruction::SetStorageKey,
         Instruction::InsertStorageKey,
         Instruction::ResetReferenceBit,
+        Instruction::LoadRealAddress,
     ];
 
     /// The instruction that the first halfword's operation code names: its first byte, and for B2 the second too.
@@ -48,6 +51,7 @@ impl Instruction {
             0x08 => Some(Instruction::SetStorageKey),
             0x09 => Some(Instruction::InsertStorageKey),
             0xB2 if first_halfword == RESET_REFERENCE_BIT => Some(Instruction::ResetReferenceBit),
+            0xB1 => Some(Instruction::LoadRealAddress),
             _ => None,
         }
     }
@@ -62,6 +66,7 @@ impl Instruction {
             Instruction::SetStorageKey => 0x08,
             Instruction::InsertStorageKey => 0x09,
             Instruction::ResetReferenceBit => 0xB2,
+            Instruction::LoadRealAddress => 0xB1,
         }
     }
 
@@ -91,6 +96,7 @@ impl Instruction {
             Instruction::SetStorageKey => "SSK",
             Instruction::InsertStorageKey => "ISK",
             Instruction::ResetReferenceBit => "RRB",
+            Instruction::LoadRealAddress => "LRA",
         }
     }
 }
@@ -208,7 +214,8 @@ fn check_call(
     Ok(instruction)
 }
 
-/// Gives the record on completion, not yet moved on: ISK sets a register, RRB the condition code, the others nothing.
+/// Gives the record on completion, not yet moved on: ISK sets a register, RRB the condition code, LRA both, the others
+/// nothing.
 #[inline]
 fn perform(
     machine: &mut Machine<impl References>,
@@ -226,6 +233,7 @@ fn perform(
         Instruction::SetStorageKey => set_storage_key(machine, guest, first_halfword)?,
         Instruction::InsertStorageKey => return insert_storage_key(machine, guest, first_halfword),
         Instruction::ResetReferenceBit => return reset_reference_bit(machine, guest),
+        Instruction::LoadRealAddress => return load_real_address(machine, guest, first_halfword),
     }
     Ok(*guest)
 }
@@ -234,7 +242,7 @@ fn perform(
 mod tests {
     use super::*;
 
-    /// 09, and B2 with 13 alone.
+    /// 09, and B2 with 13 alone; R-9: B1.
     #[test]
     fn every_first_halfword_both_ways() {
         for first_halfword in 0..=u16::MAX {
@@ -243,7 +251,7 @@ mod tests {
             let same = |one: &Instruction| one.first_halfword(second_byte) == first_halfword;
             assert_eq!(named, Instruction::ALL.into_iter().find(same));
             let by_hand = match first_halfword >> 8 {
-                0x08 | 0x09 | 0x80 | 0xAC | 0xAD | 0xB6 => true,
+                0x08 | 0x09 | 0x80 | 0xAC | 0xAD | 0xB1 | 0xB6 => true,
                 0xB2 => second_byte == 0x13,
                 _ => false,
             };

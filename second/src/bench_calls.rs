@@ -20,12 +20,17 @@ const SEGMENT_TABLE: Place = (5, 0x040);
 const INSTRUCTION_PAGE_TABLE: Place = (12, 0x918);
 const OPERAND_PAGE_TABLE: Place = (7, 0xB20);
 
-/// Tables of SSK, ISK and RRB, and the frame whose key they set or read. The word before the page table is the
-/// swap-table address.
+/// Tables of SSK, ISK and RRB, the first two of LRA too, and the frame whose key they set or read. The word before the
+/// page table is the swap-table address.
 const REAL_SEGMENT_TABLE: Place = (6, 0x400);
 const REAL_PAGE_TABLE: Place = (13, 0xD08);
 const SWAP_TABLE: Place = (4, 0xE20);
 const KEYED_FRAME: Place = (10, 0x000);
+
+/// LRA: a second page table beside these, and where the virtual tables are in storage.
+const SECOND_REAL_PAGE_TABLE: Place = (1, 0x6F8);
+const VIRTUAL_SEGMENT_TABLE: Place = (3, 0xA40);
+const VIRTUAL_PAGE_TABLE: Place = (8, 0x358);
 
 /// Logical pages of instruction and operand with DAT on.
 const INSTRUCTION_PAGE: u32 = 0x12_3000;
@@ -33,6 +38,12 @@ const OPERAND_PAGE: u32 = 0x7A_5000;
 
 /// The address that they name: segment 0A, page 6, second block of its frame.
 const KEYED_ADDRESS: u32 = 0x0A_6830;
+
+/// The address that LRA loads (segment 5D, page 7), its index, and the virtual addresses of its tables.
+const LOADED_ADDRESS: u32 = 0x5D_7E38;
+const INDEX: u32 = 0x12_3450;
+const VIRTUAL_SEGMENT_TABLE_ADDRESS: u32 = 0x1B_4A40;
+const VIRTUAL_PAGE_TABLE_ADDRESS: u32 = 0x2C_9358;
 
 /// The second halfword: base register 2, displacement 018.
 const SECOND_HALFWORD: u16 = 0x2018;
@@ -55,6 +66,7 @@ pub fn bench_call(instruction: Instruction, dat: bool, storage_size: usize) -> C
             draft.put_real_tables();
             draft.guest.general_registers[2] = 0x5A00_0000 | (KEYED_ADDRESS - DISPLACEMENT);
         }
+        Instruction::LoadRealAddress => draft.put_virtual_tables(),
         _ => {}
     }
     Call {
@@ -74,7 +86,7 @@ struct Draft {
 
 impl Draft {
     fn new(instruction: Instruction, storage_size: usize) -> Draft {
-        // SSM 04 to 07; registers 0 to 15; 04 AND FC; 07 OR 03; registers 3 and 4, twice; RRB's own.
+        // SSM 04 to 07; registers 0 to 15; 04 AND FC; 07 OR 03; registers 3 and 4 (SSK, ISK, LRA); RRB's own.
         let (second_byte, old_mask, operand) = match instruction {
             Instruction::SetSystemMask => (0x00, 0x04, 0x07),
             Instruction::StoreControl => (0x0F, 0x00, 0x00),
@@ -83,6 +95,7 @@ impl Draft {
             Instruction::SetStorageKey => (0x34, 0x00, 0x00),
             Instruction::InsertStorageKey => (0x34, 0x00, 0x00),
             Instruction::ResetReferenceBit => (0x13, 0x00, 0x00),
+            Instruction::LoadRealAddress => (0x34, 0x00, 0x00),
         };
         let guest = Guest {
             psw_0_31: PSW_EC_PROBLEM | PSW_KEY,
@@ -155,6 +168,24 @@ impl Draft {
         self.map(REAL_SEGMENT_TABLE, REAL_PAGE_TABLE, KEYED_ADDRESS, keyed_frame);
         self.image.put_word(self.address(REAL_PAGE_TABLE) - 4, swap_table);
         self.image.put_key((keyed_frame + (KEYED_ADDRESS & 0xFFF)) / 2048, 0x04);
+    }
+
+    /// LRA: MICRSEG, virtual control registers 0 and 1 (4K, 64K), real and virtual tables.
+    fn put_virtual_tables(&mut self) {
+        self.guest.general_registers[2] = 0x5A00_0000 | (LOADED_ADDRESS - INDEX - DISPLACEMENT);
+        self.guest.general_registers[3] = 0xABCD_EF3F;
+        self.guest.general_registers[4] = 0xA500_0000 | INDEX;
+        let (micblok, ecblok) = (self.guest.micblok_address(), self.address(ECBLOK));
+        self.image.put_word(micblok, 0x0F00_0000 | self.address(REAL_SEGMENT_TABLE));
+        self.image.put_word(ecblok, 0b10000 << 19);
+        self.image.put_word(ecblok + 4, 0x0F00_0000 | VIRTUAL_SEGMENT_TABLE_ADDRESS);
+        let segment_table = self.address(VIRTUAL_SEGMENT_TABLE);
+        let page_table = self.address(VIRTUAL_PAGE_TABLE);
+        self.map(REAL_SEGMENT_TABLE, REAL_PAGE_TABLE, VIRTUAL_SEGMENT_TABLE_ADDRESS, segment_table);
+        self.map(REAL_SEGMENT_TABLE, SECOND_REAL_PAGE_TABLE, VIRTUAL_PAGE_TABLE_ADDRESS, page_table);
+        let segment_entry = segment_table + 4 * (LOADED_ADDRESS >> 16);
+        self.image.put_word(segment_entry, 0xF000_0000 | VIRTUAL_PAGE_TABLE_ADDRESS);
+        self.image.put_halfword(page_table + 2 * (LOADED_ADDRESS >> 12 & 0xF), 0xABC0);
     }
 
     /// Segment entry and page entry (4K, 64K), so that the page of an address is in the frame of a real one.

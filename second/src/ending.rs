@@ -1,4 +1,4 @@
-//! The numbered endings of document 01, with what ending 3 carries since document 02, R-4.
+//! The numbered endings of document 01, with what ending 3 carries since document 02, R-4 and R-9.
 
 use crate::guest::Guest;
 
@@ -27,8 +27,8 @@ impl Exception {
     }
 }
 
-/// What ending 3 carries: for the first five instructions the step (document 01), for ISK and RRB the place, from 1,
-/// among the control fields and the page's key block as tried (document 02, R-4).
+/// What ending 3 carries: for the first five instructions the step (document 01), for ISK, RRB and LRA the place, from
+/// 1, among the control fields and the page's key block as tried (document 02, R-4, R-9).
 #[derive(Clone, Copy, Debug, PartialEq, Eq)]
 pub enum NotThere {
     Step(u8),

@@ -75,6 +75,14 @@ impl Guest {
         address::add(base_address, displacement)
     }
 
+    /// The same with bits 8-31 of an index register added as a second base, where index 0 means zero (document 02,
+    ///
+    #[inline]
+    pub fn indexed_address(&self, index: u32, second_halfword: u16) -> u32 {
+        let index_address = if index == 0 { 0 } else { word_bits(self.general_register(index), 8, 31) };
+        address::add(self.effective_address(second_halfword), index_address)
+    }
+
     /// The MICBLOK address: bits 8-28 of control register 6, then three zeros.
     #[inline]
     pub fn micblok_address(&self) -> u32 {
@@ -93,6 +101,14 @@ impl Guest {
         let mut guest = *self;
         let register = &mut guest.general_registers[(number & 15) as usize];
         *register = (*register & !0xFF) | u32::from(byte);
+        guest
+    }
+
+    /// The record with another word in a general register (document 02, R-9).
+    #[inline]
+    pub fn with_general_register(&self, number: u32, word: u32) -> Guest {
+        let mut guest = *self;
+        guest.general_registers[(number & 15) as usize] = word;
         guest
     }
 

@@ -1,6 +1,6 @@
-//! Independent second implementation, from documents 01 and 02 alone, of seven instructions of the assist (R-4 has
-//! added two to the five of document 01), with low-address protection, reference and change recording
-//! and the expanded assist switched on by control register 6, and of the trail of calls.
+//! Independent second implementation, from documents 01 and 02 alone, of eight instructions of the assist (R-4 has
+//! added two to the five of document 01, R-9 one), with low-address protection, reference and change recording
+//! and the expanded assist switched on by control register 6, and of the trail of calls.
 
 #![forbid(unsafe_code)]
 
@@ -20,6 +20,7 @@ pub mod fixed;
 pub mod generate;
 pub mod guest;
 pub mod insert_storage_key;
+pub mod load_real_address;
 pub mod machine;
 pub mod pairs;
 pub mod real_page;

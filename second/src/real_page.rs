@@ -1,5 +1,6 @@
 //! What INSERT STORAGE KEY and RESET REFERENCE BIT share: MICRSEG, then the steps of document 002 from the segment
-//! index to the page entry (steps 4 to 10 of the first, 5 to 11 of the second), and the number that ending 3 carries.
+//! index to the page entry (steps 4 to 10 of the first, 5 to 11 of the second), and the number that ending 3 carries,
+//! which LOAD REAL ADDRESS has too.
 
 use crate::address::{add, subtract};
 use crate::bits::{word_bit, word_bits};
@@ -7,37 +8,50 @@ use crate::ending::{Ending, NotThere};
 use crate::guest::Guest;
 use crate::machine::Machine;
 use crate::references::{ReferenceKind, References};
-use crate::translation::{page_table_origin, segment_table_origin, Format};
+use crate::translation::{
+    page_table_origin, segment_format_wrong, segment_invalid, segment_table_origin, Format,
+};
 
-/// Control fields and the page's key block, counted from 1 as the call tries them (document 02, R-4): what is not in
-/// storage gives ending 3 with its place. What a call does not try has no place.
+/// Control fields, virtual registers and the page's key block, counted from 1 as the call tries them (document 02,
+/// what is not in storage gives ending 3 with its place. What a call does not try has no place.
 #[derive(Default)]
 pub struct Tried {
     place: u8,
 }
 
 impl Tried {
-    /// The next control field: N bytes at a real address, one entry.
+    /// The next control field or virtual register: N bytes at a real address, one entry.
     #[inline]
     fn field<const N: usize>(
         &mut self,
         machine: &mut Machine<impl References>,
+        kind: ReferenceKind,
         address: u32,
     ) -> Result<[u8; N], Ending> {
         self.place += 1;
-        machine
-            .fetch(ReferenceKind::ControlField, address)
-            .ok_or(Ending::NotInStorage(NotThere::Place(self.place)))
+        machine.fetch(kind, address).ok_or(Ending::NotInStorage(NotThere::Place(self.place)))
     }
 
     #[inline]
     pub fn word(&mut self, machine: &mut Machine<impl References>, address: u32) -> Result<u32, Ending> {
-        self.field(machine, address).map(u32::from_be_bytes)
+        self.field(machine, ReferenceKind::ControlField, address).map(u32::from_be_bytes)
+    }
+
+    /// Virtual control register r is the word at ECBLOK + 4r.
+    #[inline]
+    pub fn virtual_register(
+        &mut self,
+        machine: &mut Machine<impl References>,
+        ecblok: u32,
+        number: u32,
+    ) -> Result<u32, Ending> {
+        let address = add(ecblok, 4 * number);
+        self.field(machine, ReferenceKind::VirtualRegister, address).map(u32::from_be_bytes)
     }
 
     #[inline]
     pub fn halfword(&mut self, machine: &mut Machine<impl References>, address: u32) -> Result<u16, Ending> {
-        self.field(machine, address).map(u16::from_be_bytes)
+        self.field(machine, ReferenceKind::ControlField, address).map(u16::from_be_bytes)
     }
 
     /// The key of the page's block, consulted: one entry.
@@ -84,7 +98,7 @@ impl RealPage {
         // 4K pages; MICRSEG bit 31 chooses 1M segments. For 64K, length (bits 0-7) below address bits 8-11: refuse.
         machine.step = step;
         let format = Format { pages_of_4k: true, segments_of_1m: word_bit(micrseg, 31) };
-        if !format.segments_of_1m && word_bits(micrseg, 0, 7) < word_bits(address, 8, 11) {
+        if format.segment_table_too_short(micrseg, address) {
             return Err(Ending::REFUSE);
         }
         // SEGPAGE, the segment entry.
@@ -118,9 +132,9 @@ impl RealPage {
 
 /// Invalid, of invalid format, or its page table too short: refuse.
 #[inline]
-fn check_segment_entry(format: Format, entry: u32, address: u32) -> Result<(), Ending> {
-    let too_short = format.page_index_leftmost_four(address) > word_bits(entry, 0, 3);
-    if word_bit(entry, 31) || word_bits(entry, 4, 7) != 0 || too_short {
+pub fn check_segment_entry(format: Format, entry: u32, address: u32) -> Result<(), Ending> {
+    let too_short = format.page_table_too_short(entry, address);
+    if segment_invalid(entry) || segment_format_wrong(entry) || too_short {
         return Err(Ending::REFUSE);
     }
     Ok(())

@@ -7,7 +7,9 @@ use crate::ending::{Ending, NotThere};
 use crate::guest::Guest;
 use crate::machine::{Machine, KEY_CHANGE, KEY_REFERENCE};
 use crate::references::References;
-use crate::translation::{page_table_origin, segment_table_origin, Format};
+use crate::translation::{
+    page_table_origin, segment_format_wrong, segment_invalid, segment_table_origin, Format,
+};
 
 /// Key bits 0-4: access and fetch protection.
 const KEY_ACCESS_AND_FETCH: u8 = 0xF8;
@@ -66,7 +68,7 @@ fn check_micrseg(
     // (4) 4K pages; bit 31 chooses 1M segments. For 64K, length (bits 0-7) below address bits 8-11: refuse.
     machine.step = 4;
     let format = Format { pages_of_4k: true, segments_of_1m: word_bit(micrseg, 31) };
-    if !format.segments_of_1m && word_bits(micrseg, 0, 7) < word_bits(address, 8, 11) {
+    if format.segment_table_too_short(micrseg, address) {
         return Err(Ending::REFUSE);
     }
     Ok(format)
@@ -86,8 +88,8 @@ fn fetch_segment_entry(
     let entry = fetch_field_word(machine, entry_address)?;
     // (6) Bit 31 one, bits 4-7 not zero, or page index too long: refuse.
     machine.step = 6;
-    let page_index_too_long = format.page_index_leftmost_four(address) > word_bits(entry, 0, 3);
-    if word_bit(entry, 31) || word_bits(entry, 4, 7) != 0 || page_index_too_long {
+    let page_index_too_long = format.page_table_too_short(entry, address);
+    if segment_invalid(entry) || segment_format_wrong(entry) || page_index_too_long {
         return Err(Ending::REFUSE);
     }
     Ok(entry)

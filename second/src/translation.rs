@@ -40,6 +40,13 @@ impl Format {
         word_bits(address, 8, if self.segments_of_1m { 11 } else { 15 })
     }
 
+    /// The segment-table length (bits 0-7 of control register 1, of virtual control register 1 or of MICRSEG) is less
+    /// than address bits 8-11. For 1M segments there is no such test.
+    #[inline]
+    pub fn segment_table_too_short(self, length_and_origin: u32, address: u32) -> bool {
+        !self.segments_of_1m && word_bits(length_and_origin, 0, 7) < word_bits(address, 8, 11)
+    }
+
     /// The page index starts at address bit 16 (64K) or 12 (1M) and ends at bit 19 (4K) or 20 (2K).
     #[inline]
     pub fn page_index(self, address: u32) -> u32 {
@@ -59,6 +66,12 @@ impl Format {
         } else {
             16
         }
+    }
+
+    /// The four leftmost bits of the page index exceed bits 0-3 of the segment entry.
+    #[inline]
+    pub fn page_table_too_short(self, segment_entry: u32, address: u32) -> bool {
+        self.page_index_leftmost_four(address) > word_bits(segment_entry, 0, 3)
     }
 
     /// Invalid bit of a page entry: 12 for 4K, 13 for 2K.
@@ -90,6 +103,18 @@ pub fn segment_table_origin(word: u32) -> u32 {
     word_bits(word, 8, 25) << 6
 }
 
+/// Invalid bit of a segment entry.
+#[inline]
+pub fn segment_invalid(segment_entry: u32) -> bool {
+    word_bit(segment_entry, 31)
+}
+
+/// Bits 4-7 not zero.
+#[inline]
+pub fn segment_format_wrong(segment_entry: u32) -> bool {
+    word_bits(segment_entry, 4, 7) != 0
+}
+
 /// Page-table origin: segment entry bits 8-28, three zeros.
 #[inline]
 pub fn page_table_origin(segment_entry: u32) -> u32 {
@@ -114,14 +139,13 @@ pub fn translate(
     };
     // Step 2: only for 64K segments.
     machine.walk_step = 2;
-    let segment_table_length = word_bits(guest.control_register_1, 0, 7);
-    if !format.segments_of_1m && segment_table_length < word_bits(logical_address, 8, 11) {
+    if format.segment_table_too_short(guest.control_register_1, logical_address) {
         return Err(Exception::SegmentTranslation { logical_address });
     }
     let segment_entry = fetch_segment_entry(machine, guest, format, logical_address)?;
     // Step 4.
     machine.walk_step = 4;
-    if format.page_index_leftmost_four(logical_address) > word_bits(segment_entry, 0, 3) {
+    if format.page_table_too_short(segment_entry, logical_address) {
         return Err(Exception::PageTranslation { logical_address });
     }
     let page_entry = fetch_page_entry(machine, segment_entry, format, logical_address)?;
@@ -144,10 +168,10 @@ fn fetch_segment_entry(
         return Err(Exception::Addressing);
     };
     let entry = u32::from_be_bytes(bytes);
-    if word_bit(entry, 31) {
+    if segment_invalid(entry) {
         return Err(Exception::SegmentTranslation { logical_address });
     }
-    if word_bits(entry, 4, 7) != 0 {
+    if segment_format_wrong(entry) {
         return Err(Exception::TranslationSpecification);
     }
     Ok(entry)

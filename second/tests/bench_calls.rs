@@ -12,7 +12,7 @@ const SIZES: [usize; 2] = [0x1_0000, 0x100_0000];
 ///
 /// A fetch of the second halfword or of the operand byte is 2 entries (key, fetch), or 4 with segment and page
 /// entry; a store test is 1, or 3. With DAT on the segment table and two page tables are further places.
-const EXPECTED: [(Instruction, [u32; 2], [usize; 2]); 7] = [
+const EXPECTED: [(Instruction, [u32; 2], [usize; 2]); 8] = [
     // MICCREG, register 0, second halfword, operand byte, MICVPSW, virtual PSW, store: MICBLOK, ECBLOK,
     // instruction, operand, virtual PSW.
     (SetSystemMask, [2 + 2 + 2 + 2 + 1, 2 + 4 + 4 + 2 + 1], [5, 8]),
@@ -29,12 +29,15 @@ const EXPECTED: [(Instruction, [u32; 2], [usize; 2]); 7] = [
     // MICRSEG, second halfword, four fields, two keys, store: the same four places and the instruction; with DAT on its
     // two tables.
     (ResetReferenceBit, [1 + 2 + 4 + 2 + 1, 1 + 4 + 4 + 2 + 1], [5, 7]),
+    // MICRSEG, MICCREG, two virtual control registers, second halfword, two walks with a virtual entry each: MICBLOK,
+    // ECBLOK, instruction, real segment table, two real page tables, two virtual tables; with DAT on two tables more.
+    (LoadRealAddress, [4 + 2 + 3 + 3, 4 + 4 + 3 + 3], [8, 10]),
 ];
 
 #[test]
 fn counts_as_numbers() {
     let counts = EXPECTED.map(|(_, counts, _)| counts);
-    assert_eq!(counts, [[9, 13], [51, 85], [7, 11], [7, 11], [8, 8], [8, 8], [10, 12]]);
+    assert_eq!(counts, [[9, 13], [51, 85], [7, 11], [7, 11], [8, 8], [8, 8], [10, 12], [12, 14]]);
 }
 
 #[test]
@@ -112,9 +115,15 @@ fn what_is_stored() {
     assert_eq!((keys[0xA800 / 2048], &storage[0x4E50..0x4E54]), (0x04, &[0; 4][..]));
     let (storage, keys) = after(ResetReferenceBit);
     assert_eq!((keys[0xA800 / 2048], &storage[0x4E50..0x4E54]), (0x00, &[0x02, 0x00, 0x00, 0x00][..]));
+    // LRA stores nothing. It reads virtual entries at 3A40 + 4 * 5D and 8358 + 2 * 7.
+    let call = bench_call(LoadRealAddress, true, SIZES[0]);
+    let (storage, keys) = after(LoadRealAddress);
+    assert_eq!(storage, call.image.storage());
+    assert_eq!([0x3BB4 / 2048, 0x8366 / 2048].map(|block: usize| keys[block]), [0x04, 0x04]);
 }
 
-/// ISK inserts the reference bit of the key 04 at every call; RRB finds it at the first call only.
+/// ISK inserts the reference bit of the key 04 at every call; RRB finds it at the first call only. LRA loads frame ABC
+/// with byte index E38, and its condition code is 0.
 #[test]
 fn what_is_handed_back() {
     let three = |instruction| {
@@ -124,4 +133,6 @@ fn what_is_handed_back() {
     };
     assert_eq!(three(InsertStorageKey).map(|guest| guest.general_registers[3]), [0xABCD_EF04; 3]);
     assert_eq!(three(ResetReferenceBit).map(|guest| guest.psw_0_31 >> 12 & 3), [2, 0, 0]);
+    let loaded = three(LoadRealAddress).map(|guest| (guest.general_registers[3], guest.psw_0_31 >> 12 & 3));
+    assert_eq!(loaded, [(0x00AB_CE38, 0); 3]);
 }

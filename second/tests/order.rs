@@ -60,7 +60,7 @@ fn operation_code_is_tested_fourth() {
             let mut setup = wrong_setup();
             setup.guest.psw_32_63 = 0x1000;
             setup.first_halfword = operation_code << 8 | second_byte;
-            let whole_byte = [0x80, 0xB6, 0xAC, 0xAD, 0x08, 0x09].contains(&operation_code);
+            let whole_byte = [0x80, 0xB6, 0xAC, 0xAD, 0x08, 0x09, 0xB1].contains(&operation_code);
             let assisted = whole_byte || setup.first_halfword == 0xB213;
             expect(&setup, (if assisted { 9 } else { 13 }, 0, 0), 0);
         }

@@ -11,7 +11,8 @@ use second::{attempt, Answer, Guest, ReferenceKind, Request};
 
 /// What holds of every answer, given storage and keys before and after.
 fn check(request: &Request, answer: &Answer, storage: (&[u8], &[u8]), keys: (&[u8], &[u8])) {
-    assert!(answer.count() <= 85);
+    // LRA: four words, four entries for the second halfword, three for each walk.
+    assert!(answer.count() <= if request.first_halfword >> 8 == 0xB1 { 14 } else { 85 });
     assert_eq!(keys.1, keys_after(keys.0, request, &answer.references));
     if answer.ending.number() != 0 {
         assert!(storage.0 == storage.1);
@@ -34,8 +35,8 @@ fn check(request: &Request, answer: &Answer, storage: (&[u8], &[u8]), keys: (&[u
     }
 }
 
-/// On completion the address moves on; ISK changes bits 24-31 of register R1, RRB real PSW bits 18-19. Nothing
-/// else.
+/// On completion the address moves on; ISK changes bits 24-31 of register R1, RRB real PSW bits 18-19, LRA both
+/// these bits and register R1, of which bits 0-7 are then zeros. Nothing else.
 fn check_record(request: &Request, answer: &Answer) {
     let (before, mut record) = (request.guest, answer.guest);
     let length = if [0x08, 0x09].contains(&(request.first_halfword >> 8)) { 2 } else { 4 };
@@ -48,7 +49,12 @@ fn check_record(request: &Request, answer: &Answer) {
         assert_eq!((new >> 8, new & 1), (old >> 8, 0));
         record.general_registers[r1] = old;
     }
-    if request.first_halfword == 0xB213 {
+    if request.first_halfword >> 8 == 0xB1 {
+        let r1 = usize::from(request.first_halfword >> 4 & 15);
+        assert!(record.general_registers[r1] < 0x100_0000);
+        record.general_registers[r1] = before.general_registers[r1];
+    }
+    if request.first_halfword == 0xB213 || request.first_halfword >> 8 == 0xB1 {
         record.psw_0_31 = record.psw_0_31 & 0xFFFF_CFFF | before.psw_0_31 & 0x0000_3000;
     }
     assert_eq!(record, before);
@@ -148,7 +154,7 @@ fn nonsense_gets_a_number() {
             control_register_1: next() & 0xFF00_1FFF,
             control_register_6: next() & 0x0F00_1FFF | 0x8000_0000,
         };
-        let operation_code = [0x80, 0xB6, 0xAC, 0xAD, 0x08, 0x09, 0xB2, 0x47][next() as usize % 8];
+        let operation_code = [0x80, 0xB6, 0xAC, 0xAD, 0x08, 0x09, 0xB2, 0xB1, 0x47][next() as usize % 9];
         let second_byte = if operation_code == 0xB2 && next() % 4 != 0 { 0x13 } else { next() as u16 & 0xFF };
         let first_halfword = operation_code << 8 | second_byte;
         let answer = attempt(&mut storage, &mut keys, &guest, first_halfword, next() % 2 == 0);

@@ -1,9 +1,12 @@
 // The control program's fields: real, with key zero, each with the step that wants it, which ending 3 carries.
 ghost use mathlib.Core.Path.{_≡_};
 ghost use Rattle.rules.specs.ControlFields.{controlWord, controlHalfword, micblokWord, addressIn, pending};
+ghost use Rattle.rules.specs.ControlFields.{segmentSizeIn, pageSizeIn};
 ghost use Rattle.storage.specs.Answers.{machine, told, seen};
 use rules::Ending;
 use rules::Guest;
+use rules::PageSize;
+use rules::SegmentSize;
 use storage::Stepped;
 use storage::Width;
 
@@ -51,6 +54,25 @@ pub fn micblok_word(
         ⌝ }
 {
     control_word(storage, keys, step, rules::sum(guest.micblok(), offset))
+}
+
+// MICRSEG bit 31 says 1M segments, bit 30 2K pages.
+pub fn segment_size_in(rseg: u32) -> SegmentSize
+    ensures { λ r. ⌜ r ≡ segmentSizeIn rseg ⌝ }
+{
+    if rseg % 2 == 1 {
+        return SegmentSize::OneM;
+    }
+    SegmentSize::SixtyFourK
+}
+
+pub(crate) fn page_size_in(rseg: u32) -> PageSize
+    ensures { λ r. ⌜ r ≡ pageSizeIn rseg ⌝ }
+{
+    if rseg / 2 % 2 == 1 {
+        return PageSize::TwoK;
+    }
+    PageSize::FourK
 }
 
 // The address that MICCREG or MICVPSW gives: bits 8-31.

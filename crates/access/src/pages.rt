@@ -1,13 +1,16 @@
 // Page tables: document 01, "Addresses and translation", steps 5 and 6.
 ghost use Prim.Native.Nat.{_≤_};
 ghost use mathlib.Core.Path.{_≡_};
-ghost use Rattle.rules.specs.Translation.{pageTable, pageIndex, pageEntryAt, pageEntry, invalid};
-ghost use Rattle.rules.specs.Translation.{malformed, realAddress, pageAddress, pageException};
+ghost use Rattle.rules.specs.Translation.{pageTable, pageIndex, pageEntryAt, entryOf, invalid};
+ghost use Rattle.rules.specs.Translation.{malformed, realAddress, pageVerdict, pageWalk};
 ghost use Rattle.storage.specs.Answers.{machine, told, seen};
+ghost use Rattle.access.specs.Walks.{toldWalk, Follows};
+use crate::walks::Walked;
 use rules::Ending;
-use rules::Exception;
 use rules::Format;
 use rules::PageSize;
+use rules::TableFault;
+use storage::Item;
 use storage::Stepped;
 use storage::Width;
 
@@ -24,7 +27,7 @@ pub fn page_index(format: Format, at: u32) -> u32
     at % format.segment_bytes() / format.page_bytes()
 }
 
-fn page_entry_at(format: Format, segment: u32, at: u32) -> u32
+pub(crate) fn page_entry_at(format: Format, segment: u32, at: u32) -> u32
     ensures { λ r. ⌜ r ≡ pageEntryAt format segment at ⌝ }
 {
     rules::sum(page_table(segment), 2 * page_index(format, at))
@@ -41,7 +44,7 @@ pub fn page_entry(
 ) -> Stepped
     ensures { λ r. ⌜
         told r (now (storage .entry)) (now (keys .exit))
-        ≡ seen (pageEntry missing format segment at) (machine (now (storage .entry)) (now (keys .entry)))
+        ≡ seen (entryOf 2 missing (pageEntryAt format segment at)) (machine (now (storage .entry)) (now (keys .entry)))
         ⌝ }
 {
     let place = page_entry_at(format, segment, at);
@@ -68,55 +71,62 @@ pub fn real_address(format: Format, entry: u32, at: u32) -> u32
     entry / (bytes / 256) % (16777216 / bytes) * bytes + at % bytes
 }
 
-// Steps 5 and 6, by the format.
-fn page_address_by(
-    storage: &[u8],
-    keys: &mut [u8],
-    format: Format,
-    segment: u32,
-    at: u32,
-) -> Stepped
-    ensures { λ r. ⌜
-        told r (now (storage .entry)) (now (keys .exit))
-        ≡ seen (pageAddress (pageException at) format segment at) (machine (now (storage .entry)) (now (keys .entry)))
-        ⌝ }
+// The entry at this place, read for an address after so many references: steps 5 and 6.
+pub(crate) fn page_verdict(entry: u32, count: u32, format: Format, place: u32, at: u32) -> Walked
+    ensures { λ r. ⌜ Follows entry count r (pageVerdict format place at) ⌝ }
 {
-    let missing = Ending::Interruption(Exception::Addressing);
-    let fetched = page_entry(storage, keys, format, segment, at, missing);
-    let Stepped::Value(entry, count) = fetched else {
-        return fetched;
-    };
     if is_invalid(format, entry) {
-        return Stepped::Stopped(Ending::Interruption(Exception::PageTranslation(at)), count);
+        return Walked::Fault(TableFault::PageInvalid, place, count);
     }
     if is_malformed(format, entry) {
-        return Stepped::Stopped(
-            Ending::Interruption(Exception::TranslationSpecification),
-            count,
-        );
+        return Walked::Fault(TableFault::PageFormat, place, count);
     }
-    Stepped::Value(real_address(format, entry, at), count)
+    Walked::Found(real_address(format, entry, at), count)
 }
 
-// The same for either size of pages. In each of its two calls the size is a constant, which makes one walk quicker.
-pub(crate) fn page_address(
+// By entries at real addresses; where the entry is not in storage, this ending.
+pub(crate) fn page_walk(
     storage: &[u8],
     keys: &mut [u8],
+    missing: Ending,
     format: Format,
     segment: u32,
     at: u32,
-) -> Stepped
+) -> Walked
     ensures { λ r. ⌜
-        told r (now (storage .entry)) (now (keys .exit))
-        ≡ seen (pageAddress (pageException at) format segment at) (machine (now (storage .entry)) (now (keys .entry)))
+        toldWalk r (now (storage .entry)) (now (keys .exit))
+        ≡ seen (pageWalk (entryOf 2 missing) format segment at) (machine (now (storage .entry)) (now (keys .entry)))
+        ⌝ }
+{
+    let place = page_entry_at(format, segment, at);
+    let Item::Of(entry) = storage::item(storage, keys, Width::Halfword, place) else {
+        return Walked::Stopped(missing, 0);
+    };
+    page_verdict(entry, 1, format, place, at)
+}
+
+// The same for either size of pages. In each of its two calls the size is a constant, which makes a walk quicker; it
+// has one caller, translation, into which the compiler puts it.
+pub(crate) fn page_walk_by_size(
+    storage: &[u8],
+    keys: &mut [u8],
+    missing: Ending,
+    format: Format,
+    segment: u32,
+    at: u32,
+) -> Walked
+    ensures { λ r. ⌜
+        toldWalk r (now (storage .entry)) (now (keys .exit))
+        ≡ seen (pageWalk (entryOf 2 missing) format segment at) (machine (now (storage .entry)) (now (keys .entry)))
         ⌝ }
 {
     let page = format.page;
     let size = format.segment;
     match page {
-        PageSize::TwoK => page_address_by(
+        PageSize::TwoK => page_walk(
             storage,
             keys,
+            missing,
             Format {
                 page: PageSize::TwoK,
                 segment: size,
@@ -124,9 +134,10 @@ pub(crate) fn page_address(
             segment,
             at,
         ),
-        PageSize::FourK => page_address_by(
+        PageSize::FourK => page_walk(
             storage,
             keys,
+            missing,
             Format {
                 page: PageSize::FourK,
                 segment: size,

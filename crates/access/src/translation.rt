@@ -1,18 +1,19 @@
 // Dynamic address translation: document 01, "Addresses and translation". The first exception found ends the walk.
 ghost use mathlib.Core.Path.{_≡_};
 ghost use Rattle.rules.specs.Machine.{Machine};
-ghost use Rattle.rules.specs.Translation.{formatOf, segmentException, translate};
+ghost use Rattle.rules.specs.declared.endings.Ending.{Ending};
+ghost use Rattle.rules.specs.Translation.{formatOf, exception, translate};
 ghost use Rattle.storage.specs.Answers.{machine, told, seen};
 ghost use Rattle.access.specs.Walks.{formatted, endedBy};
-use crate::pages::page_address;
-use crate::segments::Walked;
-use crate::segments::segment_entry;
+use crate::pages::page_walk_by_size;
+use crate::segments::segment_walk;
+use crate::walks::Walked;
 use rules::Ending;
 use rules::Exception;
 use rules::Format;
 use rules::PageSize;
-use rules::SegmentFault;
 use rules::SegmentSize;
+use rules::TableFault;
 use storage::Stepped;
 
 pub enum Formatted {
@@ -27,8 +28,8 @@ fn format(page: PageSize, segment: SegmentSize) -> Formatted
 }
 
 // Step 1: control register 0 bits 8-12.
-pub(crate) fn format_of(cr0: u32) -> Formatted
-    ensures { λ r. ⌜ ((m : Machine) → formatted r m ≡ seen (formatOf cr0) m) ⌝ }
+pub fn format_of(cr0: u32) -> Formatted
+    ensures { λ r. ⌜ ((unknown : Ending) (m : Machine) → formatted unknown r m ≡ seen (formatOf unknown cr0) m) ⌝ }
 {
     let field = cr0 / 524288 % 32;
     if field == 8 {
@@ -46,27 +47,27 @@ pub(crate) fn format_of(cr0: u32) -> Formatted
     Formatted::Unknown
 }
 
-fn segment_exception(at: u32, fault: SegmentFault) -> Ending
-    ensures { λ r. ⌜ r ≡ segmentException at fault ⌝ }
+fn exception(at: u32, fault: TableFault) -> Ending
+    ensures { λ r. ⌜ r ≡ exception at fault ⌝ }
 {
     match fault {
-        SegmentFault::SegmentTableLength => {
-            Ending::Interruption(Exception::SegmentTranslation(at))
-        }
-        SegmentFault::SegmentEntryMissing => Ending::Interruption(Exception::Addressing),
-        SegmentFault::SegmentInvalid => Ending::Interruption(Exception::SegmentTranslation(at)),
-        SegmentFault::SegmentFormat => Ending::Interruption(Exception::TranslationSpecification),
-        SegmentFault::PageTableLength => Ending::Interruption(Exception::PageTranslation(at)),
+        TableFault::SegmentTableLength => Ending::Interruption(Exception::SegmentTranslation(at)),
+        TableFault::SegmentInvalid => Ending::Interruption(Exception::SegmentTranslation(at)),
+        TableFault::SegmentFormat => Ending::Interruption(Exception::TranslationSpecification),
+        TableFault::PageTableLength => Ending::Interruption(Exception::PageTranslation(at)),
+        TableFault::PageInvalid => Ending::Interruption(Exception::PageTranslation(at)),
+        TableFault::PageFormat => Ending::Interruption(Exception::TranslationSpecification),
     }
 }
 
 // The walk's answer, its faults as endings.
 fn excepted(walked: Walked, at: u32) -> Stepped
-    ensures { λ r. ⌜ r ≡ endedBy (segmentException at) walked ⌝ }
+    ensures { λ r. ⌜ r ≡ endedBy (exception at) walked ⌝ }
 {
     match walked {
-        Walked::Entry(entry, count) => Stepped::Value(entry, count),
-        Walked::Fault(fault, count) => Stepped::Stopped(segment_exception(at, fault), count),
+        Walked::Found(real, count) => Stepped::Value(real, count),
+        Walked::Fault(fault, _, count) => Stepped::Stopped(exception(at, fault), count),
+        Walked::Stopped(e, count) => Stepped::Stopped(e, count),
     }
 }
 
@@ -79,9 +80,13 @@ pub(crate) fn translate(storage: &[u8], keys: &mut [u8], cr0: u32, cr1: u32, at:
     let Formatted::Of(format) = format_of(cr0) else {
         return Stepped::Stopped(Ending::Interruption(Exception::TranslationSpecification), 0);
     };
-    let segment = excepted(segment_entry(storage, keys, format, cr1, at), at);
+    let missing = Ending::Interruption(Exception::Addressing);
+    let segment = excepted(segment_walk(storage, keys, missing, format, cr1, at), at);
     let Stepped::Value(entry, count) = segment else {
         return segment;
     };
-    page_address(storage, keys, format, entry, at).after(count)
+    excepted(
+        page_walk_by_size(storage, keys, missing, format, entry, at),
+        at,
+    ).after(count)
 }

@@ -64,6 +64,9 @@ fn instruction(storage: &mut [u8], keys: &mut [u8], call: Call) -> Concluded
     if operation == 0x09 {
         return storage_key::insert_storage_key(storage, keys, call);
     }
+    if operation == 0xb1 {
+        return real_address::load_real_address(storage, keys, call);
+    }
     storage_key::reset_reference_bit(storage, keys, call)
 }
 

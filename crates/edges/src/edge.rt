@@ -1,23 +1,22 @@
-// An edge: one whole call, with the storage and keys that it finds. Each base set-up completes unless it is altered.
+// An edge: one whole call, with the storage and keys that it finds.
+use crate::image::usual_word;
 use crate::places::ECBLOK;
 use crate::places::INSTRUCTION;
 use crate::places::LAST_HALFWORD;
 use crate::places::LAST_WORD;
 use crate::places::MICBLOK;
-use crate::places::MICRSEG;
 use crate::places::MICVPSW;
-use crate::places::OPERAND;
 use crate::places::PAGE_TABLE;
 use crate::places::REAL_PAGE_TABLE;
-use crate::places::REAL_SEGMENT_TABLE;
 use crate::places::SEGMENT_TABLE;
 use crate::places::SWAP_TABLE;
 use crate::places::VIRTUAL_PSW;
-use crate::places::virtual_register;
 use crate::registers::EXPANDED_ASSIST;
 use crate::registers::LOW_ADDRESS_PROTECTION;
 use crate::registers::PAGES_4K_SEGMENTS_64K;
+use crate::registers::PSW_CODE;
 use crate::registers::PSW_CODE_1_MASK_A;
+use crate::registers::PSW_CODE_2;
 use crate::registers::PSW_DAT;
 use crate::registers::PSW_EC_PROBLEM;
 use crate::registers::PSW_KEY_1;
@@ -32,7 +31,7 @@ const USUAL_SIZE: usize = 0x4000;
 
 const DISPLACEMENT: u32 = 0x010;
 
-const ROOM: usize = 16;
+const ROOM: usize = 32;
 
 // No word of storage and no key has this place.
 const NOWHERE: u32 = 0xFFFFFFFF;
@@ -57,6 +56,26 @@ pub(crate) struct Edge {
 
 // What the call finds.
 impl Edge {
+    // 16 KiB, PSW key zero, DAT off; base register 2 with its displacement gives the operand. Virtual register 0 lets
+    // SSM go on.
+    pub(crate) fn new(first: u16) -> Edge {
+        let mut edge = Edge {
+            size: USUAL_SIZE,
+            first,
+            installed: false,
+            psw: PSW_EC_PROBLEM + INSTRUCTION as u64,
+            general: [0; 16],
+            cr0: 0,
+            cr1: 0,
+            cr6: 0x80000000 + MICBLOK,
+            places: [NOWHERE; ROOM],
+            values: [0; ROOM],
+            count: 0,
+        };
+        edge.general[2] = 0x5A001FF0;
+        edge.word(ECBLOK, 0x80000000)
+    }
+
     pub(crate) fn guest(self) -> Guest {
         let general = self.general;
         Guest {
@@ -79,8 +98,30 @@ impl Edge {
         self
     }
 
+    // At an even address. The other halfword of its word is as it was.
+    pub(crate) fn halfword(self, address: u32, value: u16) -> Edge {
+        let start = address - address % 4;
+        let word = self.value_at(start, usual_word(self.first, start));
+        if address == start {
+            return self.word(start, value as u32 * 0x10000 + word % 0x10000);
+        }
+        self.word(start, word / 0x10000 * 0x10000 + value as u32)
+    }
+
     pub(crate) fn key(self, number: u32, value: u8) -> Edge {
         self.word(KEY_0 + number % KEY_0, value as u32)
+    }
+
+    // The keys of all eight blocks.
+    pub(crate) fn all_keys(self, value: u8) -> Edge {
+        self.key(0, value)
+            .key(1, value)
+            .key(2, value)
+            .key(3, value)
+            .key(4, value)
+            .key(5, value)
+            .key(6, value)
+            .key(7, value)
     }
 
     // What stands at a place where `otherwise` stood at first.
@@ -94,94 +135,6 @@ impl Edge {
             i += 1;
         }
         value
-    }
-}
-
-// Base set-ups.
-impl Edge {
-    // 16 KiB, PSW key zero, DAT off; base register 2 with its displacement gives the operand. Virtual register 0 lets
-    // SSM go on.
-    fn new(first: u16) -> Edge {
-        let mut edge = Edge {
-            size: USUAL_SIZE,
-            first,
-            installed: false,
-            psw: PSW_EC_PROBLEM + INSTRUCTION as u64,
-            general: [0; 16],
-            cr0: 0,
-            cr1: 0,
-            cr6: 0x80000000 + MICBLOK,
-            places: [NOWHERE; ROOM],
-            values: [0; ROOM],
-            count: 0,
-        };
-        edge.general[2] = 0x5A001FF0;
-        edge.word(ECBLOK, 0x80000000)
-    }
-
-    fn virtual_psw(self, mask: u8, mode: u8) -> Edge {
-        self.word(VIRTUAL_PSW, mask as u32 * 0x1000000 + mode as u32 * 0x10000)
-    }
-
-    // `old` is byte 0 of the virtual PSW, `mode` its byte 1, `new` the operand.
-    pub(crate) fn ssm(old: u8, mode: u8, new: u8) -> Edge {
-        Edge::new(0x8000)
-            .virtual_psw(old, mode)
-            .word(OPERAND, new as u32 * 0x1000000)
-    }
-
-    pub(crate) fn stnsm(old: u8, mode: u8, immediate: u8) -> Edge {
-        Edge::new(0xAC00 + immediate as u16).virtual_psw(old, mode)
-    }
-
-    pub(crate) fn stosm(old: u8, mode: u8, immediate: u8) -> Edge {
-        Edge::new(0xAD00 + immediate as u16).virtual_psw(old, mode)
-    }
-
-    // R1 and R3 as they stand in the instruction, four bits each.
-    pub(crate) fn stctl(registers: u8) -> Edge {
-        Edge::new(0xB600 + registers as u16).word(ECBLOK, virtual_register(0))
-    }
-
-    // The real tables of address 023000 (64K segments: segment 2, page 3), and the page's entry.
-    fn tables(self, page: u16) -> Edge {
-        self.word(MICRSEG, REAL_SEGMENT_TABLE)
-            .word(REAL_SEGMENT_TABLE + 4 * 2, 0xF0000000 + REAL_PAGE_TABLE)
-            .word(REAL_PAGE_TABLE - 4, SWAP_TABLE)
-            .page(page)
-    }
-
-    // SSK 3,4 of address 023000 in frame 001; R1 low byte 3F.
-    pub(crate) fn ssk() -> Edge {
-        Edge::new(0x0834)
-            .register(3, 0xABCDEF3F)
-            .r2(0x5A023000)
-            .tables(0x0010)
-    }
-
-    // ISK 3,4 of the same address; `mode` is byte 1 of the virtual PSW.
-    pub(crate) fn isk(mode: u8) -> Edge {
-        Edge::ssk()
-            .first(0x0934)
-            .virtual_psw(0, mode)
-            .swap(0x5AC3AD53)
-            .key(2, 0x53)
-    }
-
-    // RRB of the same address, in frame 002; `key` is that of the address's block.
-    pub(crate) fn rrb(key: u8, swap: u32) -> Edge {
-        let mut edge = Edge::new(0xB213)
-            .operand(0x023000)
-            .tables(0x0020)
-            .swap(swap)
-            .key(4, key);
-        edge.psw = edge.psw | PSW_CODE_1_MASK_A;
-        edge
-    }
-
-    // RRB of address 023800, in the upper block.
-    pub(crate) fn rrb_upper(key: u8, swap: u32) -> Edge {
-        Edge::rrb(0x00, swap).operand(0x023800).key(5, key)
     }
 }
 
@@ -243,6 +196,18 @@ impl Edge {
         self.word(SWAP_TABLE + 8 * 3, word)
     }
 
+    // The condition code is 1, the program mask 1010.
+    pub(crate) fn condition_code_1(mut self) -> Edge {
+        self.psw = self.psw | PSW_CODE_1_MASK_A;
+        self
+    }
+
+    // The condition code is 2: before a call that sets 1.
+    pub(crate) fn condition_code_2(mut self) -> Edge {
+        self.psw = (self.psw & !PSW_CODE) | PSW_CODE_2;
+        self
+    }
+
     pub(crate) fn psw_key_1(mut self) -> Edge {
         self.psw = self.psw | PSW_KEY_1;
         self
@@ -275,12 +240,18 @@ impl Edge {
             .word(0x100, halfword as u32 * 0x10000)
     }
 
-    // DAT on, 4K pages and 64K segments. Two page entries stand in a word.
-    pub(crate) fn dat(mut self, pages_0_1: u32, pages_2_3: u32) -> Edge {
+    // DAT on, with control register 0 as given; no table has an entry.
+    pub(crate) fn dat_on(mut self, control_register_0: u32) -> Edge {
         self.psw = self.psw | PSW_DAT;
-        self.cr0 = PAGES_4K_SEGMENTS_64K;
+        self.cr0 = control_register_0;
         self.cr1 = 0xFF000000 + SEGMENT_TABLE;
-        self.word(SEGMENT_TABLE, 0xF0000000 + PAGE_TABLE)
+        self
+    }
+
+    // DAT on, 4K pages and 64K segments. Two page entries stand in a word.
+    pub(crate) fn dat(self, pages_0_1: u32, pages_2_3: u32) -> Edge {
+        self.dat_on(PAGES_4K_SEGMENTS_64K)
+            .word(SEGMENT_TABLE, 0xF0000000 + PAGE_TABLE)
             .word(PAGE_TABLE, pages_0_1)
             .word(PAGE_TABLE + 2 * 2, pages_2_3)
     }

@@ -19,7 +19,7 @@ pub(crate) enum Part {
 const SECOND_HALFWORD: u32 = 0x2010;
 
 // What every set-up has.
-fn usual_word(first: u16, address: u32) -> u32 {
+pub(crate) fn usual_word(first: u16, address: u32) -> u32 {
     match address {
         MICCREG => ECBLOK,
         MICVPSW => VIRTUAL_PSW,

@@ -1,7 +1,8 @@
-// Runs every edge of document 01, "Edges to show", but those in 16 MiB, which `vma demo` runs; those of ISK and RRB, of
-// recording and of low-address protection; and every wrong turn.
+// Runs every edge of document 01, "Edges to show", but those in 16 MiB, which `vma demo` runs; those of ISK, RRB and
+// LRA, of recording and of low-address protection; and every wrong turn.
 // It prints a line for each; `second edges` writes the lines that must come.
 use crate::insert_storage_key::run_insert_storage_key;
+use crate::load_real_address::run_load_real_address;
 use crate::low_addresses::run_low_addresses;
 use crate::recording::run_recording;
 use crate::reset_reference_bit::run_reset_reference_bit;
@@ -17,6 +18,9 @@ use crate::wrong_turns::run_wrong_turns;
 mod edge;
 mod image;
 mod insert_storage_key;
+mod load_address_formats;
+mod load_address_tests;
+mod load_real_address;
 mod low_addresses;
 mod places;
 mod recording;
@@ -25,6 +29,7 @@ mod report;
 mod reset_reference_bit;
 mod run;
 mod set_storage_key;
+mod set_ups;
 mod store_control;
 mod system_masks;
 mod text;
@@ -36,6 +41,7 @@ fn run_all(storage: &mut Storage, keys: &mut Keys) {
     run_set_storage_key(storage, keys);
     run_insert_storage_key(storage, keys);
     run_reset_reference_bit(storage, keys);
+    run_load_real_address(storage, keys);
     run_recording(storage, keys);
     run_low_addresses(storage, keys);
     run_wrong_turns(storage, keys);

@@ -27,6 +27,44 @@ pub(crate) const REAL_PAGE_TABLE: u32 = 0xC10;
 
 pub(crate) const SWAP_TABLE: u32 = 0xD00;
 
+// LRA: the virtual tables, by their virtual addresses and by their real ones.
+pub(crate) const VIRTUAL_SEGMENT_TABLE: u32 = 0x123840;
+
+pub(crate) const VIRTUAL_PAGE_TABLE: u32 = 0x056D08;
+
+pub(crate) const VIRTUAL_SEGMENT_TABLE_REAL: u32 = 0x2840;
+
+pub(crate) const VIRTUAL_PAGE_TABLE_REAL: u32 = 0x1D08;
+
+// Their entries, in storage. Here and below, 64K segments and 4K pages but where the name says otherwise.
+pub(crate) const VIRTUAL_SEGMENT_ENTRY: u32 = VIRTUAL_SEGMENT_TABLE_REAL + 4 * 0x34;
+
+pub(crate) const VIRTUAL_SEGMENT_ENTRY_1M: u32 = VIRTUAL_SEGMENT_TABLE_REAL + 4 * 3;
+
+pub(crate) const VIRTUAL_PAGE_ENTRY: u32 = VIRTUAL_PAGE_TABLE_REAL + 2 * 5;
+
+pub(crate) const VIRTUAL_PAGE_ENTRY_2K: u32 = VIRTUAL_PAGE_TABLE_REAL + 2 * 0x0B;
+
+pub(crate) const VIRTUAL_PAGE_ENTRY_1M: u32 = VIRTUAL_PAGE_TABLE_REAL + 2 * 0x45;
+
+pub(crate) const VIRTUAL_PAGE_ENTRY_2K_1M: u32 = VIRTUAL_PAGE_TABLE_REAL + 2 * 0x8B;
+
+// The real entries of the first walk, to the virtual segment entry.
+pub(crate) const FIRST_SEGMENT_ENTRY: u32 = REAL_SEGMENT_TABLE + 4 * 0x12;
+
+pub(crate) const FIRST_PAGE_ENTRY: u32 = REAL_PAGE_TABLE + 2 * 3;
+
+pub(crate) const FIRST_PAGE_ENTRY_2K: u32 = REAL_PAGE_TABLE + 2 * 7;
+
+// Those of the second walk, to the virtual page entry, and its page table.
+pub(crate) const SECOND_SEGMENT_ENTRY: u32 = REAL_SEGMENT_TABLE + 4 * 5;
+
+pub(crate) const SECOND_PAGE_TABLE: u32 = 0xD00;
+
+pub(crate) const SECOND_PAGE_ENTRY: u32 = SECOND_PAGE_TABLE + 2 * 6;
+
+pub(crate) const SECOND_PAGE_ENTRY_2K: u32 = SECOND_PAGE_TABLE + 2 * 0x0D;
+
 // Segment table and page table for DAT.
 pub(crate) const SEGMENT_TABLE: u32 = 0x3000;
 

@@ -25,33 +25,40 @@ const FIELD_MISSING: u32 = 3;
 pub(crate) fn print_answer(answer: Answer, first: u16) {
     let ending = answer.ending;
     let guest = answer.guest;
-    print_ending(ending, has_result(first));
+    print_ending(ending, sets_register(first) | sets_code(first));
     print(b" | count ");
     print_decimal(answer.count);
     print(b" | next ");
     print_hex(guest.instruction_address() as u64, ADDRESS_DIGITS);
-    if has_result(first) {
-        print_result(guest, first);
+    if sets_register(first) {
+        print_register(guest, (first / 16 % 16) as u32);
+    }
+    if sets_code(first) {
+        print_code(guest);
     }
 }
 
-// ISK and RRB, which set a register or the condition code; their ending 3 carries a place.
-fn has_result(first: u16) -> bool {
-    (first / 256 == 0x09) | (first == 0xB213)
+// ISK and LRA set register R1, RRB and LRA the condition code. The ending 3 of these three carries a place.
+fn sets_register(first: u16) -> bool {
+    (first / 256 == 0x09) | (first / 256 == 0xB1)
 }
 
-// Register R1 of ISK, or the condition code, PSW bits 18-19, as the record handed back has it.
-fn print_result(guest: Guest, first: u16) {
-    if first == 0xB213 {
-        print(b" | condition code ");
-        print_decimal((guest.psw / 0x100000000000 % 4) as u32);
-        return;
-    }
-    let r1 = (first / 16 % 16) as u32;
+fn sets_code(first: u16) -> bool {
+    (first == 0xB213) | (first / 256 == 0xB1)
+}
+
+// A general register as the record handed back has it.
+fn print_register(guest: Guest, number: u32) {
     print(b" | register ");
-    print_decimal(r1);
+    print_decimal(number);
     print(b": ");
-    print_hex(guest.register(r1) as u64, REGISTER_DIGITS);
+    print_hex(guest.register(number) as u64, REGISTER_DIGITS);
+}
+
+// The condition code, PSW bits 18-19, as the record handed back has it.
+fn print_code(guest: Guest) {
+    print(b" | condition code ");
+    print_decimal((guest.psw / 0x100000000000 % 4) as u32);
 }
 
 fn print_ending(ending: Ending, by_place: bool) {

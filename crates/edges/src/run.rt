@@ -4,8 +4,13 @@ use crate::image::Part;
 use crate::image::fill;
 use crate::insert_storage_key;
 use crate::insert_storage_key::missing_field;
+use crate::load_address_formats;
+use crate::load_address_tests;
+use crate::load_real_address;
 use crate::low_addresses;
 use crate::recording;
+use crate::registers::MICRSEG_2K;
+use crate::registers::MICRSEG_4K;
 use crate::report::print_answer;
 use crate::report::print_changes;
 use crate::reset_reference_bit;
@@ -41,6 +46,14 @@ pub(crate) enum Group {
     ResetBit,
     ResetBitFields,
     ResetBitTests,
+    LoadAddressReal4K,
+    LoadAddressReal2K,
+    LoadAddressTables,
+    LoadAddressRegisters,
+    LoadAddressFields,
+    LoadAddressWalks,
+    LoadAddressEntries,
+    LoadAddressTests,
     Recording,
     LowAddresses,
     WrongTurns,
@@ -58,6 +71,14 @@ fn edge_of(group: Group, number: usize) -> Edge {
         Group::ResetBit => reset_reference_bit::edge(number),
         Group::ResetBitFields => missing_field(Edge::rrb(0xFB, 0x50C3FDFF), number),
         Group::ResetBitTests => reset_reference_bit::test_edge(number),
+        Group::LoadAddressReal4K => load_address_formats::format_edge(MICRSEG_4K, number),
+        Group::LoadAddressReal2K => load_address_formats::format_edge(MICRSEG_2K, number),
+        Group::LoadAddressTables => load_real_address::table_edge(number),
+        Group::LoadAddressRegisters => load_real_address::register_edge(number),
+        Group::LoadAddressFields => load_address_tests::field_edge(number),
+        Group::LoadAddressWalks => load_address_tests::walk_edge(number),
+        Group::LoadAddressEntries => load_address_tests::entry_edge(number),
+        Group::LoadAddressTests => load_address_tests::test_edge(number),
         Group::Recording => recording::edge(number),
         Group::LowAddresses => low_addresses::edge(number),
         Group::WrongTurns => wrong_turns::edge(number),

@@ -13,7 +13,8 @@ lengthOf b = cond (ltb b 0x40) 2 (cond (ltb b 0xc0) 4 6)
 
 -- whether the byte begins an assisted instruction; B2 does with one second byte alone
 abbrev pub beginsAssisted : (byte : ℕ) → Bool
-beginsAssisted b = eqb b 0x08 || eqb b 0x09 || eqb b 0x80 || eqb b 0xac || eqb b 0xad || eqb b 0xb2 || eqb b 0xb6
+beginsAssisted b =
+    eqb b 0x08 || eqb b 0x09 || eqb b 0x80 || eqb b 0xac || eqb b 0xad || eqb b 0xb1 || eqb b 0xb2 || eqb b 0xb6
 
 -- both
 abbrev pub operationOf : (byte : ℕ) → Operation

@@ -182,7 +182,7 @@ const ENTRIES: [u8; 256] = [
     0x04, // AE
     0x04, // AF
     0x04, // B0
-    0x04, // B1
+    0x84, // B1, LRA
     0x84, // B2, RRB with the second byte 13
     0x04, // B3
     0x04, // B4

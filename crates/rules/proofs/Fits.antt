@@ -1,11 +1,13 @@
--- How an instruction can end, the record that it hands back, and how many references it can make: what all seven share.
+-- How an instruction can end, the record that it hands back, and how many references it can make: what all eight share.
 pub mod SetSystemMask
 pub mod StoreControl
 pub mod StoreThenMask
 pub mod SwapTables
 pub mod SetStorageKey
 pub mod InsertStorageKey
+pub mod ConditionCode
 pub mod ResetReferenceBit
+pub mod LoadRealAddress
 pub mod Attempt
 use Prim.Native.Nat.{ℕ, _+_, _^_, _≤_, _<_}
 use native.Mathlib.Omega.{arith}

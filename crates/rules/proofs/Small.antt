@@ -52,7 +52,8 @@ table-small op =
     (small-cond (eqb op 0xac || eqb op 0xad) _ _ refl
     (small-cond (eqb op 0x08) _ _ refl
     (small-cond (eqb op 0x09) _ _ refl
-    (small-cond (eqb op 0xb213) _ _ refl refl)))))
+    (small-cond (eqb op 0xb213) _ _ refl
+    (small-cond (eqb op 0xb1) _ _ refl refl))))))
 
 pub record Small (e : Ending) : Type 0 where
   pub number : numbers e .number < 2 ^ 8

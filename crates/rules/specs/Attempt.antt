@@ -30,6 +30,7 @@ use Rattle.rules.specs.StoreThenMask.{storeThenAnd, storeThenOr}
 use Rattle.rules.specs.SetStorageKey.{setStorageKey}
 use Rattle.rules.specs.InsertStorageKey.{insertStorageKey}
 use Rattle.rules.specs.ResetReferenceBit.{resetReferenceBit}
+use Rattle.rules.specs.LoadRealAddress.{loadRealAddress}
 
 -- ---- the tests
 
@@ -63,7 +64,7 @@ admitted bytes keys next c = do
   stopIf (wrongMode (c .guest)) WrongMode
   next c
 
--- ---- the instruction, by its operation code: B213 is the one of the seven that is left
+-- ---- the instruction, by its operation code: B213 is the one of the eight that is left
 
 unfoldable pub instruction : Call → Steps Completion
 instruction c =
@@ -73,7 +74,8 @@ instruction c =
     (branch (eqb (operation c) 0xad) (storeThenOr c)
     (branch (eqb (operation c) 0x08) (setStorageKey c)
     (branch (eqb (operation c) 0x09) (insertStorageKey c)
-    (resetReferenceBit c))))))
+    (branch (eqb (operation c) 0xb1) (loadRealAddress c)
+    (resetReferenceBit c)))))))
 
 -- the tests, and then the instruction
 abbrev pub program : (bytes keys : ℕ) → Call → Steps Completion

@@ -4,7 +4,7 @@ use Prim.Native.Nat.{ℕ}
 use mathlib.Core.Bool.{cond, _&&_}
 use mathlib.Core.List.{List}
 use lib.Dec.{eqb}
-use Rattle.rules.specs.Guest.{Guest, withByte, withCode}
+use Rattle.rules.specs.Guest.{Guest, withByte, withAddress, withCode}
 use Rattle.rules.specs.Bits.{bit, halfword}
 use Rattle.rules.specs.Writes.{Write}
 use Rattle.rules.specs.Endings.{Ending, Expanded, refuse}
@@ -16,6 +16,7 @@ pub use Rattle.rules.specs.declared.record_change.RecordChange.the-varia
   Unchanged,
   RegisterByte,
   ConditionCode,
+  LoadedAddress,
 }
 
 abbrev pub operationByte : Call → ℕ
@@ -28,12 +29,15 @@ operation c = cond (eqb (operationByte c) 0xb2) (c .first) (operationByte c)
 abbrev pub r1 : Call → ℕ
 r1 c = halfword 8 11 (c .first)
 
--- R2 of the RR format is R3 of the RS format
+-- R2 of the RR format is R3 of the RS format, and X2, the index, of the RX format
 abbrev pub r2 : Call → ℕ
 r2 c = halfword 12 15 (c .first)
 
 abbrev pub r3 : Call → ℕ
 r3 = r2
+
+abbrev pub x2 : Call → ℕ
+x2 = r2
 
 abbrev pub immediate : Call → ℕ
 immediate c = halfword 8 15 (c .first)
@@ -49,6 +53,7 @@ abbrev pub changed : Call → RecordChange → Guest
 changed c Unchanged = c .guest
 changed c (RegisterByte byte) = withByte (c .guest) (r1 c) byte
 changed c (ConditionCode code) = withCode (c .guest) code
+changed c (LoadedAddress code address) = withAddress (withCode (c .guest) code) (r1 c) address
 
 -- what is changed in the record, and the writes in order
 pub record Completion : Type 0 where

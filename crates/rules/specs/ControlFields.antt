@@ -2,12 +2,13 @@
 -- Document 01, "Addresses and translation". Each is fetched with the number of the step that wants it; if a byte of it
 -- is not in storage, the attempt ends with 3, which carries that step.
 use Prim.Native.Nat.{ℕ}
-use mathlib.Core.Bool.{Bool}
+use mathlib.Core.Bool.{Bool, cond}
 use Rattle.rules.specs.Endings.{FieldMissing}
 use Rattle.rules.specs.Guest.{Guest, micblok}
 use Rattle.rules.specs.Bits.{bit, word}
 use Rattle.rules.specs.Machine.{_⊕_}
 use Rattle.rules.specs.Steps.{Steps, fetchBytes}
+use Rattle.rules.specs.Translation.{PageSize, TwoK, FourK, SegmentSize, SixtyFourK, OneM}
 
 abbrev pub controlWord : (step address : ℕ) → Steps ℕ
 controlWord step address = fetchBytes address 4 (FieldMissing step)
@@ -28,6 +29,13 @@ miccreg step = micblokWord step 4
 
 abbrev pub micvpsw : (step : ℕ) → Guest → Steps ℕ
 micvpsw step = micblokWord step 8
+
+-- MICRSEG, which designates the real segment table: bit 31 says 1M segments, bit 30 2K pages
+abbrev pub segmentSizeIn : (rseg : ℕ) → SegmentSize
+segmentSizeIn rseg = cond (bit 32 31 rseg) OneM SixtyFourK
+
+abbrev pub pageSizeIn : (rseg : ℕ) → PageSize
+pageSizeIn rseg = cond (bit 32 30 rseg) TwoK FourK
 
 -- the address that MICCREG gives, of ECBLOK, where virtual control register r is the word at 4r; or MICVPSW, of the
 -- virtual PSW; or the word before a page table, of the swap table: bits 8-31

@@ -61,6 +61,16 @@ withByte g r byte = record {
   cr6 = g .cr6;
 }
 
+-- another address in register r: bits 8-31, and zeros before them
+abbrev pub withAddress : Guest → (r address : ℕ) → Guest
+withAddress g r address = record {
+  psw = g .psw;
+  general = set (g .general) r (word 8 31 address);
+  cr0 = g .cr0;
+  cr1 = g .cr1;
+  cr6 = g .cr6;
+}
+
 -- base 0 means zero
 abbrev pub base : Guest → (r : ℕ) → ℕ
 base g zero = 0
@@ -70,6 +80,10 @@ base g (suc r) = word 8 31 (register g (suc r))
 abbrev pub effective : Guest → (second : ℕ) → ℕ
 effective g second = halfword 4 15 second ⊕ base g (halfword 0 3 second)
 
+-- in the RX format an index register is added as a second base
+abbrev pub indexed : Guest → (index second : ℕ) → ℕ
+indexed g index second = effective g second ⊕ base g index
+
 -- ---- control register 0
 
 -- with bit 3 one, logical addresses 0 to 511 are protected from operand stores: document 02, R-6
@@ -78,7 +92,7 @@ protectsLow g address = bit 32 3 (g .cr0) && ltb address 512
 
 -- ---- control register 6
 
--- bits 0-3 are 10X0: step 1 of STCTL, STNSM, STOSM and RRB
+-- bits 0-3 are 10X0: step 1 of STCTL, STNSM, STOSM, RRB and LRA
 abbrev pub assistsControl : Guest → Bool
 assistsControl g = eqb (word 0 1 (g .cr6)) 0b10 && not (bit 32 3 (g .cr6))
 

@@ -26,6 +26,7 @@ pub mod SwapTables
 pub mod SetStorageKey
 pub mod InsertStorageKey
 pub mod ResetReferenceBit
+pub mod LoadRealAddress
 -- the order of the tests, and the answer
 pub mod Attempt
 -- "What a reader may hold us to"

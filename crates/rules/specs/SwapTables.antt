@@ -4,22 +4,16 @@ use Prim.Native.Nat.{ℕ, _+_, _-_, _*_, _/_, _^_}
 use mathlib.Core.Bool.{Bool, cond, not, _&&_}
 use lib.Dec.{eqb}
 use lib.Bits.{bitOr}
-use Rattle.rules.specs.Endings.{Ending, FieldMissing, refuse}
+use Rattle.rules.specs.Endings.{FieldMissing, refuse}
 use Rattle.rules.specs.Translation.{
   Format,
   FourK,
-  SixtyFourK,
-  OneM,
-  SegmentFault,
-  SegmentTableLength,
-  SegmentEntryMissing,
-  SegmentInvalid,
-  SegmentFormat,
-  PageTableLength,
-  segmentEntry,
   pageTable,
   pageIndex,
-  pageEntry,
+  pageEntryAt,
+  foundOr,
+  entryOf,
+  segmentWalk,
   invalid,
   malformed,
   realAddress,
@@ -28,7 +22,7 @@ use Rattle.rules.specs.Bits.{bit, word}
 use Rattle.rules.specs.Machine.{_⊕_}
 use Rattle.rules.specs.Guest.{Guest, register}
 use Rattle.rules.specs.Steps.{Steps, done, _>>=_, _>>_, stopIf}
-use Rattle.rules.specs.ControlFields.{controlWord, micrseg, addressIn}
+use Rattle.rules.specs.ControlFields.{controlWord, micrseg, segmentSizeIn, addressIn}
 use Rattle.rules.specs.Call.{Call, r2}
 pub use Rattle.rules.specs.declared.tables.FieldNumbers.{FieldNumbers}
 pub use Rattle.rules.specs.declared.tables.FoundPage.{FoundPage}
@@ -65,15 +59,13 @@ segmentTable assists n g = do
 
 -- step 4: 4K pages; bit 31 of MICRSEG chooses 1M segments
 abbrev pub formatIn : (rseg : ℕ) → Format
-formatIn rseg = record { page = FourK; segment = cond (bit 32 31 rseg) OneM SixtyFourK }
+formatIn rseg = record { page = FourK; segment = segmentSizeIn rseg }
 
--- steps 4 to 6, the walk's faults: an entry that is not in storage gives 3, all others refuse
-abbrev pub segmentEnding : FieldNumbers → SegmentFault → Ending
-segmentEnding n SegmentTableLength = refuse  -- 4
-segmentEnding n SegmentEntryMissing = FieldMissing (n .segment)  -- 5
-segmentEnding n SegmentInvalid = refuse  -- 6
-segmentEnding n SegmentFormat = refuse
-segmentEnding n PageTableLength = refuse
+-- steps 4 to 6: a segment entry that is not in storage gives 3, all that is wrong with the tables is refused
+unfoldable pub segmentOf : FieldNumbers → Format → (rseg address : ℕ) → Steps ℕ
+segmentOf n f rseg a = do
+  walk ← segmentWalk (entryOf 4 (FieldMissing (n .segment))) f rseg a
+  foundOr (λ x. refuse) walk
 
 -- step 7, the word at the page-table origin less 4, which names the swap table; and step 8's address, of the swap word
 unfoldable pub swapWordAt : FieldNumbers → Format → (segment address : ℕ) → Steps ℕ
@@ -84,7 +76,7 @@ swapWordAt n f segment a = do
 -- steps 9 and 10: the page entry
 unfoldable pub pageOf : FieldNumbers → Format → (segment address : ℕ) → Steps ℕ
 pageOf n f segment a = do
-  page ← pageEntry (FieldMissing (n .page)) f segment a  -- 9
+  page ← entryOf 2 (FieldMissing (n .page)) (pageEntryAt f segment a)  -- 9
   stopIf (not (invalid f page) && malformed f page) refuse  -- 10
   done page
 
@@ -101,7 +93,7 @@ foundPage f place swap page a = record {
 unfoldable pub findPage : FieldNumbers → (rseg address : ℕ) → Steps FoundPage
 findPage n rseg a = do
   let f = formatIn rseg
-  segment ← segmentEntry (segmentEnding n) f rseg a  -- 4, 5, 6
+  segment ← segmentOf n f rseg a  -- 4, 5, 6
   place ← swapWordAt n f segment a  -- 7
   swap ← controlWord (n .swap) place  -- 8
   page ← pageOf n f segment a  -- 9, 10

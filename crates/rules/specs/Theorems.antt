@@ -6,6 +6,7 @@ pub mod Answers
 pub mod Operations
 pub mod Edges
 pub mod KeyEdges
+pub mod LoadEdges
 pub mod MissingFields
 pub mod Count
 pub mod Isolation

@@ -36,7 +36,7 @@ impl Call {
         (self.first / 16 % 16) as u32
     }
 
-    // R2 of the RR format is R3 of the RS format.
+    // R2 of the RR format is R3 of the RS format, and X2, the index, of the RX format.
     pub fn r2(self) -> u32
         ensures { λ r. ⌜ r ≡ r2 self ⌝ }
     {
@@ -57,6 +57,9 @@ impl Call {
             RecordChange::Unchanged => self.guest,
             RecordChange::RegisterByte(byte) => self.guest.with_byte(self.r1(), byte),
             RecordChange::ConditionCode(code) => self.guest.with_code(code),
+            RecordChange::LoadedAddress(code, address) => {
+                self.guest.with_code(code).with_address(self.r1(), address)
+            }
         }
     }
 

@@ -1,8 +1,8 @@
 // A guest's record: the real PSW, the general registers, and real control registers 0, 1 and 6.
 ghost use mathlib.Core.Path.{_≡_};
 ghost use Rattle.rules.specs.Guest.{instructionAddress, datOn, pswKey, extendedControl, problemState};
-ghost use Rattle.rules.specs.Guest.{advance, register, base, effective, protectsLow, assistsControl, micblok};
-ghost use Rattle.rules.specs.Guest.{withByte, withCode};
+ghost use Rattle.rules.specs.Guest.{advance, register, base, effective, indexed, protectsLow, assistsControl};
+ghost use Rattle.rules.specs.Guest.{micblok, withByte, withAddress, withCode};
 
 pub struct Guest {
     pub psw: u64,
@@ -77,6 +77,18 @@ impl Guest {
         next
     }
 
+    // The record with another address in general register r; there is none after 15.
+    pub fn with_address(self, r: u32, address: u32) -> Guest
+        ensures { λ x. ⌜ x ≡ withAddress self r address ⌝ }
+    {
+        let number = r as usize;
+        let mut next = self;
+        if number < 16 {
+            next.general[number] = address % 16777216;
+        }
+        next
+    }
+
     // The record with another condition code.
     pub fn with_code(self, code: u32) -> Guest
         ensures { λ x. ⌜ x ≡ withCode self code ⌝ }
@@ -104,6 +116,13 @@ impl Guest {
         crate::sum(second % 4096, self.base(second / 4096 % 16))
     }
 
+    // The same in the RX format: an index register is added as a second base.
+    pub fn indexed(self, index: u32, second: u32) -> u32
+        ensures { λ r. ⌜ r ≡ indexed self index second ⌝ }
+    {
+        crate::sum(self.effective(second), self.base(index))
+    }
+
     // With bit 3 of control register 0 one, logical addresses 0 to 511 are protected from operand stores.
     pub fn protects_low(self, address: u32) -> bool
         ensures { λ r. ⌜ r ≡ protectsLow self address ⌝ }
@@ -111,7 +130,7 @@ impl Guest {
         (self.cr0 / 268435456 % 2 == 1) & (address < 512)
     }
 
-    // Control register 6 bits 0-3 are 10X0: step 1 of STCTL, STNSM, STOSM and RRB.
+    // Control register 6 bits 0-3 are 10X0: step 1 of STCTL, STNSM, STOSM, RRB and LRA.
     pub fn assists_control(self) -> bool
         ensures { λ r. ⌜ r ≡ assistsControl self ⌝ }
     {

@@ -23,7 +23,6 @@ pub use record_change::RecordChange;
 pub use tables::FieldNumbers;
 pub use tables::Format;
 pub use tables::FoundPage;
-pub use tables::PageFault;
 pub use tables::PageSize;
-pub use tables::SegmentFault;
 pub use tables::SegmentSize;
+pub use tables::TableFault;

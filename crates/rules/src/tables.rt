@@ -42,18 +42,12 @@ impl Format {
     }
 }
 
-// What can be wrong on the way to a segment-table entry, in the order of the tests.
-pub enum SegmentFault {
+// What can be wrong with tables that are walked, in the order of the tests.
+pub enum TableFault {
     SegmentTableLength,
-    SegmentEntryMissing,
     SegmentInvalid,
     SegmentFormat,
     PageTableLength,
-}
-
-// What can be wrong with a page-table entry, in the order of the tests.
-pub enum PageFault {
-    PageEntryMissing,
     PageInvalid,
     PageFormat,
 }

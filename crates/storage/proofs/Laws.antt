@@ -11,7 +11,7 @@ use Rattle.rules.specs.declared.record_change.RecordChange.the-variants.{Unchan
 use Rattle.rules.specs.Endings.{refuse}
 use Rattle.rules.specs.Machine.{Machine}
 use Rattle.rules.specs.Writes.{Write, performAll}
-use Rattle.rules.specs.Steps.{Steps, done, branch, _>>=_, stopIf, endingAs}
+use Rattle.rules.specs.Steps.{Steps, done, stop, branch, _>>=_, stopIf, endingAs}
 use Rattle.rules.specs.Call.{Completion, completeAs, complete}
 use Rattle.rules.specs.Recording.{notedAll}
 use Rattle.rules.specs.Run.{Outcome, ended, gave, run, View, view}
@@ -181,6 +181,13 @@ module _ {A : Type 0} {m m′ : Machine} {t : Steps A} {n : ℕ} where
   settles a h =
       let small = h .small in
       sym (h .so ∙ ap (λ c. went a c m′) (let z : (n + 0 % 2 ^ 32) % 2 ^ 32 ≡ n = omega arith in z))
+
+  -- the program stops
+  pub halts : (e : Ending) → Runs m t n m′ (stop e) → over e n m′ ≡ seen t m
+  unfolding seen
+  halts e h =
+      let small = h .small in
+      sym (h .so ∙ ap (λ c. over e c m′) (let z : (n + 0 % 2 ^ 32) % 2 ^ 32 ≡ n = omega arith in z))
 
 -- ---- the last step: its answer, told after the references before it, is the stage's
 

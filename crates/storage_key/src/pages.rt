@@ -5,7 +5,7 @@ ghost use Rattle.storage.specs.Answers.{machine, seen};
 ghost use Rattle.storage_key.specs.Way.{toldPage, laterPage, pageEnding, stoppedPage};
 use crate::tables::format_in;
 use crate::tables::page_of;
-use crate::tables::refused;
+use crate::tables::segment_of;
 use crate::tables::swap_word_at;
 use rules::Ending;
 use rules::FieldNumbers;
@@ -84,8 +84,7 @@ pub(crate) fn find_page(
 {
     // 4 to 6
     let format = format_in(rseg);
-    let walked = access::segment_entry(storage, keys, format, rseg, at);
-    let entry = refused(numbers, walked);
+    let entry = segment_of(storage, keys, numbers, format, rseg, at);
     let Stepped::Value(segment, count_6) = entry else {
         return stopped(entry);
     };

@@ -1,17 +1,13 @@
 // The steps on the way to a page. Their numbers here are those of SSK and ISK.
 ghost use mathlib.Core.Path.{_≡_};
-ghost use Rattle.rules.specs.SwapTables.{steps, places, formatIn, segmentEnding, segmentTable, swapWordAt, pageOf};
+ghost use Rattle.rules.specs.SwapTables.{steps, places, formatIn, segmentTable, segmentOf, swapWordAt, pageOf};
 ghost use Rattle.storage.specs.Answers.{machine, told, seen};
-ghost use Rattle.access.specs.Walks.{endedBy};
-use access::Walked;
 use rules::Ending;
 use rules::Exception;
 use rules::FieldNumbers;
 use rules::Format;
 use rules::Guest;
 use rules::PageSize;
-use rules::SegmentFault;
-use rules::SegmentSize;
 use storage::Stepped;
 
 // What ending 3 carries. SSK: the step.
@@ -76,40 +72,28 @@ pub(crate) fn segment_table(
 pub(crate) fn format_in(rseg: u32) -> Format
     ensures { λ r. ⌜ r ≡ formatIn rseg ⌝ }
 {
-    if rseg % 2 == 1 {
-        return Format {
-            page: PageSize::FourK,
-            segment: SegmentSize::OneM,
-        };
-    }
     Format {
         page: PageSize::FourK,
-        segment: SegmentSize::SixtyFourK,
+        segment: access::segment_size_in(rseg),
     }
 }
 
-// Steps 4 to 6: an entry that is not in storage gives 3, all other faults refuse.
-fn segment_ending(numbers: FieldNumbers, fault: SegmentFault) -> Ending
-    ensures { λ r. ⌜ r ≡ segmentEnding numbers fault ⌝ }
+// Steps 4 to 6: a segment entry that is not in storage gives 3, all that is wrong with the tables is refused.
+pub(crate) fn segment_of(
+    storage: &[u8],
+    keys: &mut [u8],
+    numbers: FieldNumbers,
+    format: Format,
+    rseg: u32,
+    at: u32,
+) -> Stepped
+    ensures { λ r. ⌜
+        told r (now (storage .entry)) (now (keys .exit))
+        ≡ seen (segmentOf numbers format rseg at) (machine (now (storage .entry)) (now (keys .entry)))
+        ⌝ }
 {
-    let refuse = Ending::Interruption(Exception::PrivilegedOperation);
-    match fault {
-        SegmentFault::SegmentTableLength => refuse,
-        SegmentFault::SegmentEntryMissing => Ending::FieldMissing(numbers.segment),
-        SegmentFault::SegmentInvalid => refuse,
-        SegmentFault::SegmentFormat => refuse,
-        SegmentFault::PageTableLength => refuse,
-    }
-}
-
-// The walk's answer, its faults as endings.
-pub(crate) fn refused(numbers: FieldNumbers, walked: Walked) -> Stepped
-    ensures { λ r. ⌜ r ≡ endedBy (segmentEnding numbers) walked ⌝ }
-{
-    match walked {
-        Walked::Entry(entry, count) => Stepped::Value(entry, count),
-        Walked::Fault(fault, count) => Stepped::Stopped(segment_ending(numbers, fault), count),
-    }
+    let missing = Ending::FieldMissing(numbers.segment);
+    access::segment_walk(storage, keys, missing, format, rseg, at).or_refuse()
 }
 
 // Step 7, the word at the page-table origin less 4; and step 8's address, of the swap word.

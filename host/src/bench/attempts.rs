@@ -26,11 +26,11 @@ impl Attempt {
     }
 }
 
-/// The library changes the record in place. Word 1, with the instruction address, is restored before each call; what
-/// ISK leaves in a register and RRB in the condition code isn't looked at by the next call. The plain function takes
-/// its record by reference, and hands another back. What goes in and what comes out is hidden from the optimizer
-/// alike, by reference, which costs no copy. Neither is inlined here: the one is in another language, the other in
-/// another crate.
+/// The library changes the record in place. Word 1, with the instruction address, is restored before each call;
+/// what ISK and LRA leave in a register, and RRB and LRA in the condition code, isn't looked at by the next call.
+/// The plain function takes its record by reference, and hands another back. What goes in and what comes out is
+/// hidden from the optimizer alike, by reference, which costs no copy. Neither is inlined here: the one is in
+/// another language, the other in another crate.
 impl Measured for Attempt {
     fn library_batch(&mut self, calls: u32) -> f64 {
         let Request { guest, first_halfword, expanded } = self.request;

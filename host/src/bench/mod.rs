@@ -17,7 +17,7 @@ pub const COMMAND: Command = Command { name: "bench", help: HELP, action: Action
 const HELP: &str = "usage: vma bench [--quick | --check]
 
 Measures the time of a call, by the proved library and by plain Rust (the second program without its list of
-references): attempts that complete, each of the seven instructions with DAT off and on, in 64 KiB and in 16
+references): attempts that complete, each of the eight instructions with DAT off and on, in 64 KiB and in 16
 MiB of storage; and writing calls, in the trail of a buffer of 64 KiB and of 16 MiB, whose record is the last
 that goes in, or is turned away. Both make the same calls, by turns; first it is made sure that they give the
 same. Prints nanoseconds for a call, each the median of 200 batches of 2,000 calls, and the ratio library /

@@ -5,8 +5,8 @@ use second::{Call, Instruction};
 
 use crate::sides::{self, Made};
 
-/// 256 first bytes less the six that are assisted with any second byte, and B213.
-const NOT_ASSISTED: usize = 65_536 - 6 * 256 - 1;
+/// 256 first bytes less the seven that are assisted with any second byte, and B213.
+const NOT_ASSISTED: usize = 65_536 - 7 * 256 - 1;
 
 #[test]
 fn every_first_halfword() {

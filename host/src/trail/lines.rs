@@ -66,7 +66,7 @@ pub fn turned_away(trailer: &Trailer) -> Option<String> {
     }
 }
 
-/// The mnemonic, for one of the seven instructions; else the operation code, which has two bytes where the first is B2.
+/// The mnemonic, for one of the eight instructions; else the operation code, which has two bytes where the first is B2.
 fn operation(first_halfword: u16) -> String {
     match Instruction::of_first_halfword(first_halfword) {
         Some(instruction) => instruction.mnemonic().into(),
@@ -140,8 +140,8 @@ mod tests {
 
     #[test]
     fn instructions_by_their_operation_code() {
-        let halfwords = [0x80FF, 0xB600, 0xAC12, 0xADFF, 0x0834, 0x0934, 0xB213];
-        assert_eq!(halfwords.map(operation), ["SSM", "STCTL", "STNSM", "STOSM", "SSK", "ISK", "RRB"]);
+        let halfwords = [0x80FF, 0xB600, 0xAC12, 0xADFF, 0x0834, 0x0934, 0xB213, 0xB130];
+        assert_eq!(halfwords.map(operation), ["SSM", "STCTL", "STNSM", "STOSM", "SSK", "ISK", "RRB", "LRA"]);
         let others = [0x0A00, 0xB212, 0xB200, 0x0012].map(operation);
         assert_eq!(others, ["operation 0A", "operation B212", "operation B200", "operation 00"]);
     }

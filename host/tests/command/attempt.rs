@@ -1,6 +1,6 @@
 //! Attempts that complete.
 
-use crate::case::{isk, record, rrb, ssk, ssm, storage, Case, MICCREG, MICVPSW, SECOND_HALFWORD};
+use crate::case::{isk, lra, record, rrb, ssk, ssm, storage, Case, MICCREG, MICVPSW, SECOND_HALFWORD};
 
 /// The instruction address moved on, and nothing else in the record.
 fn moved_on(before: &[u32; 21], next: u32) -> Vec<u32> {
@@ -161,6 +161,30 @@ fn reset_reference_bit() {
     assert_eq!((run.status, run.output.as_str()), (Some(0), expected));
     assert_eq!(case.read("keys"), [4, 6, 4, 0, 0xFB, 0, 0, 0]);
     (expected_record[0], expected_record[1]) = (0x0009_3A00, 0x1004);
+    assert_eq!(case.record(), expected_record);
+}
+
+#[test]
+fn load_real_address() {
+    let case = lra();
+    let storage = case.read("storage");
+    let mut expected_record = case.record();
+    let run = case.run();
+    // MICRSEG, MICCREG, both virtual control registers; the second halfword's key and fetch, in block 2; twice two
+    // real entries, in block 1, and a virtual one, in block 4.
+    let expected = "ending 0 completed\n\
+                    references 12\n\
+                    next instruction address 001004\n\
+                    key of block 0 (000000-0007FF): 00 -> 04\n\
+                    key of block 1 (000800-000FFF): 00 -> 04\n\
+                    key of block 2 (001000-0017FF): 00 -> 04\n\
+                    key of block 4 (002000-0027FF): 00 -> 04\n\
+                    record PSW bits 0-31: 00091A00 -> 00090A00\n\
+                    record PSW bits 32-63: 00001000 -> 00001004\n\
+                    record general register 3: ABCDEF3F -> 00789345\n";
+    assert_eq!((run.status, run.output.as_str()), (Some(0), expected));
+    assert_eq!(case.read("storage"), storage);
+    (expected_record[0], expected_record[1], expected_record[2 + 3]) = (0x0009_0A00, 0x1004, 0x0078_9345);
     assert_eq!(case.record(), expected_record);
 }
 

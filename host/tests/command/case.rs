@@ -214,3 +214,23 @@ pub fn rrb() -> Case {
     case.write("keys", &[0, 0, 0, 0, 0xFB, 0, 0, 0]);
     case
 }
+
+/// LRA 3,010(0,2) of address 012345; condition code 1, program mask A. The guest's segment table is at 002100 and its
+/// page table at 002180, in a page that the real tables have in frame 002.
+pub fn lra() -> Case {
+    let places: [(usize, &[u8]); 8] = [
+        (0x400, &[0, 0, 8, 0, 0, 0, 5, 0]), // MICRSEG: segment table at 000800; MICCREG
+        (0x500, &[0x00, 0x80, 0, 0]),       // virtual control register 0: 4K pages, 64K segments
+        (0x504, &[0, 0, 0x21, 0]),          // virtual control register 1: length 0
+        (0x800, &[0xF0, 0, 0x0C, 0x10]),    // segment 0: page table at 000C10, length 15
+        (0xC14, &[0x00, 0x20]),             // page 2: frame 002
+        SECOND_HALFWORD,
+        (0x2104, &[0x20, 0, 0x21, 0x80]), // segment 1
+        (0x2184, &[0x78, 0x90]),          // page 2: the guest's frame 789
+    ];
+    let mut record = record();
+    record[0] = 0x0009_1A00;
+    record[2 + 2] = 0x5A01_2335;
+    record[2 + 3] = 0xABCD_EF3F;
+    Case::new("B130", &storage(0x4000, &places), &record)
+}

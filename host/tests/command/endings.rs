@@ -1,7 +1,7 @@
 //! Attempts that don't complete: the ending is said, the status is 4, and no file is touched, but keys where
 //! reference bits were recorded.
 
-use crate::case::{isk, record, rrb, ssk, ssm, storage, text, Case, Snapshot, MICCREG, SECOND_HALFWORD};
+use crate::case::{isk, lra, record, rrb, ssk, ssm, storage, text, Case, Snapshot, MICCREG, SECOND_HALFWORD};
 
 /// A key in which something is recorded: the number of its block, its value before, and after.
 type Recorded = (usize, u8, u8);
@@ -132,6 +132,13 @@ fn not_in_storage() {
         let recorded: Vec<Recorded> = recorded.into_iter().chain(more).collect();
         expect(&case, "3 control field or key block not in storage, place 6", count, &recorded);
     }
+    // LRA: the real page table of segment 0 at 004000, after four fields, the second halfword and the segment entry.
+    let case = lra();
+    let mut storage = case.read("storage");
+    storage[0x802..0x804].copy_from_slice(&[0x40, 0x00]);
+    case.write("storage", &storage);
+    let recorded = [(0, 0x00, 0x04), (1, 0x00, 0x04), (2, 0x00, 0x04)];
+    expect(&case, "3 control field or key block not in storage, place 6", 7, &recorded);
 }
 
 #[test]
@@ -193,7 +200,7 @@ fn bad_calls() {
     expect(&altered(ssm(0x07), 1, 0x0000_1001), "12 instruction address is odd", 0, &[]);
     let mut case = ssm(0x07);
     case.first = "8100";
-    expect(&case, "13 operation code is none of the seven", 0, &[]);
+    expect(&case, "13 operation code is none of the eight", 0, &[]);
 }
 
 #[test]

@@ -3,7 +3,7 @@
 use crate::case::vma;
 
 /// Parts of the demonstration.
-const SHOWN: [&str; 18] = [
+const SHOWN: [&str; 20] = [
     "SET SYSTEM MASK (SSM, 80)\n\n  (*) EC, old 04, new 07\n      \
      0 completed; 9 references; next instruction address 001004\n      storage 000600: 04 -> 07\n      \
      key of block 0 (000000-0007FF): 00 -> 06\n      key of block 2 (001000-0017FF): 00 -> 04\n      \
@@ -37,8 +37,14 @@ const SHOWN: [&str; 18] = [
     "  key FF, swap word 50C3F9FF at FFFFFE, bit 20 zero\n      \
      0 completed; 10 references; next instruction address 001004; condition code 3\n      \
      storage FFFFFE: 50 -> 5C\n",
+    // The frame and the byte index of 2K pages: 5678 without its last three bits, and 345E78 modulo 2,048.
+    "LOAD REAL ADDRESS (LRA, B1)\n\n  virtual pages 2K, segments 64K, real pages 4K\n      0 completed; 12 references; \
+     next instruction address 001004; general register 3 00567E78; condition code 0\n",
+    // Segment 34: its entry is at 123840 and four times 34 more.
+    "  virtual pages 4K, segments 64K, real pages 2K, segment entry invalid\n      0 completed; 9 references; \
+     next instruction address 001004; general register 3 00123910; condition code 1\n",
     "Other operation codes\n\n  first halfword B212\n      \
-     13 operation code is none of the seven; 0 references; next instruction address 001000\n\n",
+     13 operation code is none of the eight; 0 references; next instruction address 001000\n\n",
     // MICVPSW is in block 0, the virtual PSW in block 5.
     "  EC, old 07, AND F8, refused after two fetches, whose reference bits stay\n      \
      1 program interruption, code 2 privileged operation; 2 references; next instruction address 001000\n      \
@@ -61,7 +67,7 @@ const SHOWN: [&str; 18] = [
 fn demo() {
     let run = vma(&["demo"]);
     assert_eq!((run.status, run.messages.as_str()), (Some(0), ""));
-    assert!(run.output.ends_with("\n160 edges; each answer is the second program's\n"));
+    assert!(run.output.ends_with("\n270 edges; each answer is the second program's\n"));
     for expected in SHOWN {
         assert!(run.output.contains(expected), "{expected}");
     }
@@ -113,7 +119,7 @@ fn bench() {
     let run = vma(&["bench", "--quick"]);
     assert_eq!((run.status, run.messages.as_str()), (Some(0), ""));
     let rows = run.output.lines().filter(|line| line.contains("  DAT "));
-    assert_eq!(rows.count(), 28);
+    assert_eq!(rows.count(), 32);
     for title in ["trail  goes in", "trail  is full"] {
         for size in ["64 KiB", "16 MiB"] {
             assert!(run.output.contains(&format!("\n{title}  {size}  ")), "{}", run.output);
@@ -128,6 +134,6 @@ fn bench_that_only_compares() {
     let run = vma(&["bench", "--check"]);
     assert_eq!((run.status, run.messages.as_str()), (Some(0), ""));
     let titles: Vec<&str> = run.output.lines().collect();
-    assert_eq!(titles.len(), 32, "{}", run.output);
-    assert_eq!((titles[0], titles[31]), ("SSM    DAT off  64 KiB", "trail  is full  16 MiB"));
+    assert_eq!(titles.len(), 36, "{}", run.output);
+    assert_eq!((titles[0], titles[35]), ("SSM    DAT off  64 KiB", "trail  is full  16 MiB"));
 }

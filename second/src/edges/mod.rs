@@ -1,9 +1,11 @@
 //! Every edge of document 01, section "Edges to show", those that come to "expanded" with control register 6 bit 6 both
-//! ways (document 02, R-3), those of ISK and RRB, of recording and of low-address protection, as a
-//! concrete call.
+//! ways (document 02, R-3), those of ISK and RRB, of LRA, of recording and of low-address protection
+//! as a concrete call.
 
 mod insert_key_edges;
 mod large;
+mod load_address_edges;
+mod load_address_troubles;
 mod low_address_edges;
 mod mask_edges;
 mod recording_edges;
@@ -71,16 +73,16 @@ impl Edge {
         )
     }
 
-    /// For ISK the register that R1 names, for RRB the condition code, as the record handed back has them.
+    /// For ISK the register that R1 names, for RRB the condition code, for LRA both, as the record handed back has
+    /// them.
     fn result_words(&self, record: &Guest) -> String {
+        let number = halfword_bits(self.request.first_halfword, 8, 11);
+        let register = format!(" | register {number}: {:08X}", record.general_register(number));
+        let condition_code = format!(" | condition code {}", record.condition_code());
         match Instruction::of_first_halfword(self.request.first_halfword) {
-            Some(Instruction::InsertStorageKey) => {
-                let number = halfword_bits(self.request.first_halfword, 8, 11);
-                format!(" | register {number}: {:08X}", record.general_register(number))
-            }
-            Some(Instruction::ResetReferenceBit) => {
-                format!(" | condition code {}", record.condition_code())
-            }
+            Some(Instruction::InsertStorageKey) => register,
+            Some(Instruction::ResetReferenceBit) => condition_code,
+            Some(Instruction::LoadRealAddress) => register + &condition_code,
             _ => String::new(),
         }
     }
@@ -102,6 +104,8 @@ pub fn small() -> Vec<Edge> {
     edges.extend(storage_key_edges::edges());
     edges.extend(insert_key_edges::edges());
     edges.extend(reset_bit_edges::edges());
+    edges.extend(load_address_edges::edges());
+    edges.extend(load_address_troubles::edges());
     edges.extend(recording_edges::edges());
     edges.extend(low_address_edges::edges());
     edges.extend(wrong_turns::edges());

@@ -7,6 +7,7 @@ pub fn lists() -> Vec<FixedList> {
     let mut lists = vec![three_masks(), two_keys()];
     lists.extend(refused_then_completed());
     lists.push(four_of_one_page());
+    lists.push(three_loads());
     lists
 }
 
@@ -55,6 +56,26 @@ fn four_of_one_page() -> FixedList {
             ("list of four, call 2: key FB and virtual key F9 from call 1", &first),
             ("list of four, call 3: key FB from call 1, R1 C4", &set),
             ("list of four, call 4: key C1 and virtual key C4 from call 3", &insert),
+        ],
+    )
+}
+
+/// LRA before and after two stores of STCTL: over the virtual segment entry, then over virtual control registers 0 and
+/// 1.
+fn three_loads() -> FixedList {
+    let load = Setup::lra();
+    // Registers 5 (A5B5C5D5, bit 31 one), and 8 and 9.
+    let over_entry = Setup::stctl(5, 5).operand(0x2910);
+    let over_registers = Setup::stctl(8, 9).operand(0x500);
+    let image_of = load.clone().word(0x520, 0x0050_0000).word(0x524, 0x0012_3840);
+    FixedList::several(
+        &image_of,
+        &[
+            ("list of five, call 1: code 0", &load),
+            ("list of five, call 2: register 5 stored over the segment entry", &over_entry),
+            ("list of five, call 3: code 1 from call 2", &load),
+            ("list of five, call 4: registers 8 and 9 stored over 0 and 1", &over_registers),
+            ("list of five, call 5: another format from call 4", &load),
         ],
     )
 }

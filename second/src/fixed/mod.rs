@@ -1,7 +1,8 @@
-//! Fixed calls that open every file of calls: the manual's figures 13 to 18, and 6, 7, 10 and 11 of ISK and RRB,
-//! every bit of the system mask, bad calls in every combination, low-address protection, the expanded assist switched
-//! on, the steps of ISK and RRB, RRB's second halfword, ISK and RRB with a fetch in the page's own block, first
-//! halfwords beside theirs, and the impostors' lists.
+//! Fixed calls that open every file of calls: the manual's figures 13 to 18, 6, 7, 10 and 11 of ISK and RRB, and 9 of
+//! LRA; every bit of the system mask, bad calls in every combination, low-address protection, the expanded assist
+//! switched on, the steps of ISK and RRB, the second halfword of RRB and LRA, ISK and RRB with a fetch in the page's
+//! own block, first halfwords beside those of all three; LRA's condition codes in every format, its bits, its steps,
+//! its operand's address and entries that go round; and the impostors' lists.
 
 mod expanded;
 mod figure_10;
@@ -12,12 +13,17 @@ mod figure_15;
 mod figure_16;
 mod figure_6;
 mod figure_7;
+mod figure_9;
 mod figures_17_18;
 mod impostors;
 mod key_steps;
 mod key_tables;
 mod layout;
 mod low_addresses;
+mod lra_address;
+mod lra_bits;
+mod lra_formats;
+mod lra_steps;
 mod mask_bits;
 mod order;
 mod other_codes;
@@ -96,6 +102,11 @@ pub fn key_figures() -> Vec<FixedList> {
     lists
 }
 
+/// Figure 9, each case a list of one call.
+pub fn lra_figure() -> Vec<FixedList> {
+    figure_9::cases()
+}
+
 /// Every bit of the system mask, each case a list of one call.
 pub fn mask_bits() -> Vec<FixedList> {
     mask_bits::cases()
@@ -121,7 +132,7 @@ pub fn key_steps() -> Vec<FixedList> {
     key_steps::cases()
 }
 
-/// RRB's second halfword, each case a list of one call.
+/// The second halfword of RRB and LRA, each case a list of one call.
 pub fn second_halfwords() -> Vec<FixedList> {
     second_halfword::cases()
 }
@@ -131,9 +142,29 @@ pub fn own_blocks() -> Vec<FixedList> {
     own_block::cases()
 }
 
-/// First halfwords beside those of ISK and RRB, each case a list of one call.
+/// First halfwords beside those of ISK, RRB and LRA, each case a list of one call.
 pub fn other_codes() -> Vec<FixedList> {
     other_codes::cases()
+}
+
+/// Each condition code of LRA in every format, each case a list of one call.
+pub fn lra_formats() -> Vec<FixedList> {
+    lra_formats::cases()
+}
+
+/// LRA bit by bit, each case a list of one call.
+pub fn lra_bits() -> Vec<FixedList> {
+    lra_bits::cases()
+}
+
+/// The steps of LRA, each case a list of one call.
+pub fn lra_steps() -> Vec<FixedList> {
+    lra_steps::cases()
+}
+
+/// LRA's address by base and index, and entries that go round, each case a list of one call.
+pub fn lra_addresses() -> Vec<FixedList> {
+    lra_address::cases()
 }
 
 pub fn impostor_lists() -> Vec<FixedList> {
@@ -141,18 +172,23 @@ pub fn impostor_lists() -> Vec<FixedList> {
 }
 
 /// All of them with their titles, in the order in which a file of calls has them.
-pub fn all() -> [(&'static str, Vec<FixedList>); 11] {
+pub fn all() -> [(&'static str, Vec<FixedList>); 16] {
     [
         ("Figures 13 to 18", figures()),
         ("Figures 6, 7, 10 and 11", key_figures()),
+        ("Figure 9", lra_figure()),
         ("Every bit of the system mask", mask_bits()),
         ("Bad calls: every combination", bad_calls()),
         ("Low-address protection", low_addresses()),
         ("Expanded assist switched on", expanded_assist()),
         ("Steps of ISK and RRB", key_steps()),
-        ("Second halfword of RRB", second_halfwords()),
+        ("Second halfword of RRB and LRA", second_halfwords()),
         ("ISK and RRB in the page's own block", own_blocks()),
-        ("First halfwords beside ISK and RRB", other_codes()),
+        ("First halfwords beside ISK, RRB and LRA", other_codes()),
+        ("Condition codes of LRA in every format", lra_formats()),
+        ("Bits of LRA's registers and entries", lra_bits()),
+        ("Steps of LRA", lra_steps()),
+        ("Addresses of LRA", lra_addresses()),
         ("Lists for the impostors", impostor_lists()),
     ]
 }

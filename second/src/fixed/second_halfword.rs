@@ -1,5 +1,5 @@
-//! RRB's second halfword in all four formats: each code that its access can end with, and none; and the same with DAT
-//! off.
+//! The second halfword of RRB and LRA in all four formats: each code that its access can end with, and none; and the
+//! same with DAT off.
 
 use super::FixedList;
 use crate::setup::{Setup, SEGMENT_TABLE};
@@ -17,11 +17,16 @@ const FORMATS: [(&str, u32, u16, u16); 4] = [
 const LOGICAL: u32 = 0x1C_1000;
 
 pub fn cases() -> Vec<FixedList> {
-    let mut cases: Vec<FixedList> = FORMATS.into_iter().flat_map(cases_of_format).collect();
-    let not_there = Setup::rrb().instruction(0x3FFE, 0x3FFE);
-    cases.push(one("DAT off", "in storage", &Setup::rrb()));
+    [Setup::rrb(), Setup::lra()].iter().flat_map(cases_of_instruction).collect()
+}
+
+fn cases_of_instruction(setup: &Setup) -> Vec<FixedList> {
+    let of_format = |format| cases_of_format(setup, format);
+    let mut cases: Vec<FixedList> = FORMATS.into_iter().flat_map(of_format).collect();
+    let not_there = setup.clone().instruction(0x3FFE, 0x3FFE);
+    cases.push(one("DAT off", "in storage", setup));
     cases.push(one("DAT off", "not in storage", &not_there));
-    cases.push(one("DAT off", "protected", &protected(Setup::rrb())));
+    cases.push(one("DAT off", "protected", &protected(setup.clone())));
     cases
 }
 
@@ -33,8 +38,8 @@ fn protected(setup: Setup) -> Setup {
     setup.psw_key(1).key(2, 0x28)
 }
 
-fn cases_of_format((format, bits, invalid, wrong): (&str, u32, u16, u16)) -> Vec<FixedList> {
-    let mut setup = Setup::rrb().dat(bits).instruction(LOGICAL, 0x1000).map(LOGICAL, 0x1000);
+fn cases_of_format(setup: &Setup, (format, bits, invalid, wrong): (&str, u32, u16, u16)) -> Vec<FixedList> {
+    let mut setup = setup.clone().dat(bits).instruction(LOGICAL, 0x1000).map(LOGICAL, 0x1000);
     let (segment_entry, page_entry) = setup.entry_addresses(LOGICAL);
     let segment_word = setup.image.word(segment_entry);
     let page_halfword = (setup.image.word(page_entry) >> 16) as u16;

@@ -1,7 +1,9 @@
 //! Calls built so that they complete.
 
 use super::build_key;
-use super::draft::{Draft, Items, Role};
+use super::build_lra;
+use super::draft::Draft;
+use super::item::{Items, Role};
 use super::low_address;
 use super::tables::Mapping;
 use crate::address::{add, subtract};
@@ -20,6 +22,7 @@ pub fn build(draft: &mut Draft, instruction: Instruction) {
         Instruction::SetStorageKey => build_key::set_storage_key(draft, micblok),
         Instruction::InsertStorageKey => build_key::insert_storage_key(draft, micblok),
         Instruction::ResetReferenceBit => build_key::reset_reference_bit(draft, micblok),
+        Instruction::LoadRealAddress => build_lra::load_real_address(draft, micblok),
         _ => build_with_operand(draft, micblok, instruction),
     }
 }
@@ -45,7 +48,7 @@ pub fn put_instruction(draft: &mut Draft) -> (u32, Option<Mapping>) {
     draft.guest.control_register_6 |= bit_2 << 29;
     let halfword = draft.allocate(2, 2, 0);
     draft.note(Role::SecondHalfword, halfword);
-    let mut mapping = draft.guest.dat_on().then(|| Mapping::new(draft));
+    let mut mapping = draft.guest.dat_on().then(|| Mapping::for_dat(draft));
     let halfword_logical = logical_of(draft, &mut mapping, halfword);
     draft.guest.psw_32_63 |= subtract(halfword_logical, 2);
     permit(draft, halfword, false);
@@ -88,19 +91,22 @@ fn put_ecblok(draft: &mut Draft, micblok: u32, instruction: Instruction) {
     }
 }
 
-/// In part such that a register that is fetched, of SSM register 0, lies across a block boundary.
-fn place_ecblok(draft: &mut Draft, instruction: Instruction) -> u32 {
+/// In part such that a register that is fetched, of SSM register 0, lies across a block boundary. LRA's has its first
+/// two registers only.
+pub fn place_ecblok(draft: &mut Draft, instruction: Instruction) -> u32 {
+    let length = if instruction == Instruction::LoadRealAddress { 8 } else { 64 };
     if draft.random.percent(REGISTER_ACROSS) {
         let number = match instruction {
             Instruction::StoreControl => draft.draw_named_register(),
+            Instruction::LoadRealAddress => draft.random.below(2),
             _ => 0,
         };
-        if let Some(ecblok) = draft.allocate_across(64, 4 * number) {
+        if let Some(ecblok) = draft.allocate_across(length, 4 * number) {
             return ecblok;
         }
     }
     let alignment = draft.block_alignment();
-    draft.allocate(64, alignment, 0)
+    draft.allocate(length, alignment, 0)
 }
 
 /// MICVPSW and the virtual PSW.

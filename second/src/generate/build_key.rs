@@ -1,7 +1,8 @@
 //! SSK, ISK and RRB calls built so that they complete.
 
 use super::build::{put_instruction, put_second_halfword, put_virtual_psw};
-use super::draft::{Draft, Place, Role};
+use super::draft::Draft;
+use super::item::{Place, Role};
 use crate::address::{add, subtract, KEY_BLOCK};
 use crate::machine::KEY_REFERENCE;
 
@@ -29,7 +30,7 @@ pub fn insert_storage_key(draft: &mut Draft, micblok: u32) {
     let alignment = draft.block_alignment();
     let virtual_psw = draft.allocate(2, alignment, 0);
     let mut address = draft.random.word() & 0x00FF_FFF0;
-    if draft.random.percent(50) {
+    if draft.random.percent(70) {
         address = address & !0x800 | virtual_psw & 0x800;
     }
     put_address_in_register(draft, address);
@@ -126,11 +127,11 @@ fn put_page_table(draft: &mut Draft, address: u32, page: u32) -> u32 {
 fn frame_for(draft: &mut Draft, offset: u32) -> Option<u32> {
     let frame = match draft.random.below(100) {
         0..=37 => frame_of_item(draft, offset, |_| true),
-        38..=66 => frame_of_item(draft, offset, |role| role == Role::VirtualPsw),
+        38..=72 => frame_of_item(draft, offset, |role| role == Role::VirtualPsw),
         _ => None,
     };
     if let Some(frame) = frame {
-        if draft.random.percent(50) {
+        if draft.random.percent(70) {
             let number = (frame << 12 | offset) / KEY_BLOCK;
             let key = draft.image.key(number);
             draft.image.put_key(number, key & !KEY_REFERENCE);

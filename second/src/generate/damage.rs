@@ -1,14 +1,23 @@
-//! Damage near every edge: sizes, PSW, registers. Fields in storage are in `damage_fields`.
+//! Damage near every edge: sizes, PSW, registers. Fields in storage are in `damage_fields`, those of LRA alone in
+//! `damage_lra`.
 
 use super::damage_fields::damage_field;
-use super::draft::{Draft, Role};
+use super::damage_lra;
+use super::draft::Draft;
 use super::expanded;
+use super::item::Role;
 use super::low_address;
 use super::sizes::MOST_KEYS;
 use crate::address::{add, subtract, ADDRESS_MASK};
 
+/// Share of LRA's damages that are to what it alone has, in percent.
+const OF_LRA_ALONE: u32 = 55;
+
 /// One damage, chosen at random. Some damages leave a call complete.
 pub fn damage(draft: &mut Draft) {
+    if draft.first_halfword >> 8 == 0xB1 && draft.random.percent(OF_LRA_ALONE) {
+        return damage_lra::damage(draft);
+    }
     match draft.random.below(100) {
         0..=2 => storage_size(draft),
         3..=4 => key_count(draft),
@@ -19,8 +28,8 @@ pub fn damage(draft: &mut Draft) {
         17..=22 => move_micblok(draft),
         23..=27 => draft.guest.control_register_0 ^= 1 << (19 + draft.random.below(5)),
         28..=33 => control_register_1(draft),
-        34..=38 => mask_values(draft),
-        39..=43 => expanded::damage(draft),
+        34..=36 => mask_values(draft),
+        37..=43 => expanded::damage(draft),
         44..=48 => keys(draft),
         49..=54 => operand_address(draft),
         55..=57 => instruction_address(draft),
@@ -100,7 +109,7 @@ fn operation_code(draft: &mut Draft) {
     let other = if draft.random.percent(50) {
         u16::from(draft.random.byte())
     } else {
-        draft.random.pick(&[0x80, 0xB6, 0xAC, 0xAD, 0x08, 0x09, 0xB2, 0x0A, 0xAE, 0xB7, 0x82])
+        draft.random.pick(&[0x80, 0xB6, 0xAC, 0xAD, 0x08, 0x09, 0xB2, 0xB1, 0x0A, 0xAE, 0xB7, 0xB0, 0x82])
     };
     draft.first_halfword = other << 8 | draft.first_halfword & 0xFF;
 }

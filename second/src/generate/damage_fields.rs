@@ -1,7 +1,8 @@
 //! Damage to fields in storage: table entries, addresses in control fields, single bits.
 
 use super::damage::edge_address;
-use super::draft::{Draft, Role};
+use super::draft::Draft;
+use super::item::Role;
 use crate::address::{add, ADDRESS_MASK};
 
 /// One field damaged.
@@ -16,14 +17,18 @@ pub fn damage_field(draft: &mut Draft) {
     }
 }
 
-/// Invalid bit, format bits, length, or page-table origin.
 fn segment_entry(draft: &mut Draft) {
-    // RRB has both; that for DAT is damaged more often, as its code differs by format.
+    // RRB and LRA have both; that for DAT is damaged more often, as its code differs by format.
     let of_dat = if draft.random.percent(50) { draft.find(&[Role::SegmentEntry]) } else { None };
-    let Some(place) = of_dat.or_else(|| draft.find(&[Role::SegmentEntry, Role::RealSegmentEntry])) else {
-        return any_bit(draft);
-    };
-    let word = draft.image.word(place.address);
+    match of_dat.or_else(|| draft.find(&[Role::SegmentEntry, Role::RealSegmentEntry])) {
+        Some(place) => damage_segment_entry(draft, place.address),
+        None => any_bit(draft),
+    }
+}
+
+/// Invalid bit, format bits, length, or page-table origin.
+pub fn damage_segment_entry(draft: &mut Draft, address: u32) {
+    let word = draft.image.word(address);
     let one_less = (word >> 28).saturating_sub(1) << 28;
     let damaged = match draft.random.below(4) {
         0 => word | 1,
@@ -31,15 +36,19 @@ fn segment_entry(draft: &mut Draft) {
         2 => word & 0x0FFF_FFFF | draft.random.pick(&[0, one_less]),
         _ => word & 0xFF00_0007 | edge_address(draft) & 0x00FF_FFF8,
     };
-    draft.image.put_word(place.address, damaged);
+    draft.image.put_word(address, damaged);
+}
+
+fn page_entry(draft: &mut Draft) {
+    match draft.find(&[Role::PageEntry, Role::RealPageEntry]) {
+        Some(place) => damage_page_entry(draft, place.address),
+        None => any_bit(draft),
+    }
 }
 
 /// Invalid bit, format bits, or frame.
-fn page_entry(draft: &mut Draft) {
-    let Some(place) = draft.find(&[Role::PageEntry, Role::RealPageEntry]) else {
-        return any_bit(draft);
-    };
-    let entry = (draft.image.word(place.address) >> 16) as u16;
+pub fn damage_page_entry(draft: &mut Draft, address: u32) {
+    let entry = (draft.image.word(address) >> 16) as u16;
     let first_frame_outside = (draft.size() >> 8) as u16;
     let damaged = match draft.random.below(6) {
         0 => entry | 0x0008,
@@ -49,7 +58,7 @@ fn page_entry(draft: &mut Draft) {
         4 => entry & 0x0007 | u16::from(draft.random.byte()) << 8,
         _ => entry ^ (1 << draft.random.below(16)),
     };
-    draft.image.put_halfword(place.address, damaged);
+    draft.image.put_halfword(address, damaged);
 }
 
 /// The address in MICRSEG, MICCREG, MICVPSW or the swap-table address at an edge.

@@ -2,57 +2,11 @@
 
 use std::collections::BTreeSet;
 
+use super::item::{Items, Place, Role};
 use super::random::Random;
 use crate::address::{add, bytes_of_item, subtract, ADDRESS_MASK, KEY_BLOCK};
 use crate::call::{Call, Request, StorageImage};
 use crate::guest::Guest;
-
-/// What an item in storage is, so that it can be damaged.
-#[derive(Clone, Copy, Debug, PartialEq, Eq)]
-pub enum Role {
-    Micrseg,
-    Miccreg,
-    Micvpsw,
-    VirtualRegister,
-    VirtualPsw,
-    SecondHalfword,
-    Operand,
-    /// Entries for DAT.
-    SegmentEntry,
-    PageEntry,
-    /// Entries of the real tables of SSK, ISK and RRB.
-    RealSegmentEntry,
-    RealPageEntry,
-    SwapAddress,
-    SwapWord,
-}
-
-/// An item at a real address.
-#[derive(Clone, Copy, Debug)]
-pub struct Place {
-    pub role: Role,
-    pub address: u32,
-}
-
-/// Items of an operand, one after the other, each of `length` bytes: STCTL's words, or one byte.
-#[derive(Clone, Copy)]
-pub struct Items {
-    pub count: u32,
-    pub length: u32,
-}
-
-impl Items {
-    pub const BYTE: Items = Items { count: 1, length: 1 };
-
-    pub fn words(count: u32) -> Items {
-        Items { count, length: 4 }
-    }
-
-    /// The logical address of each, from that of the first.
-    pub fn addresses(self, start: u32) -> impl Iterator<Item = u32> {
-        (0..self.count).map(move |item| add(start, self.length * item))
-    }
-}
 
 /// Blocks by number in which items may be placed; empty for all blocks.
 #[derive(Clone, Debug, Default)]

@@ -2,7 +2,8 @@
 //! means is decided by the flag and control register 6 bit 6 (document 02, R-3), which every draft has at random.
 
 use super::build::{completing_value, put_value};
-use super::draft::{Draft, Role};
+use super::draft::Draft;
+use super::item::Role;
 use super::random::Random;
 use crate::address::add;
 use crate::attempt::Instruction;
@@ -53,14 +54,14 @@ fn draw_reason(random: &mut Random, instruction: Instruction) -> Option<Reason> 
     let any = random.percent(50);
     let any_bit = 0x80 >> random.below(8);
     let per_or_dat = random.pick(&[0x40, 0x04]);
-    let (ec_mode, pending, bit, to_one) = match (instruction, random.below(5)) {
-        (Instruction::SetSystemMask, 0) => (true, any, per_or_dat, random.percent(50)),
-        (Instruction::SetSystemMask, 1) => (true, any, random.pick(&[0x80, 0x20, 0x10, 0x08]), true),
-        (Instruction::SetSystemMask, 2) => (true, true, random.pick(&[0x02, 0x01]), true),
+    let (ec_mode, pending, bit, to_one) = match (instruction, random.below(9)) {
+        (Instruction::SetSystemMask, 0..=1) => (true, any, per_or_dat, random.percent(50)),
+        (Instruction::SetSystemMask, 2..=3) => (true, any, random.pick(&[0x80, 0x20, 0x10, 0x08]), true),
+        (Instruction::SetSystemMask, 4..=5) => (true, true, random.pick(&[0x02, 0x01]), true),
         (Instruction::SetSystemMask, _) => (false, true, any_bit, true),
         (Instruction::StoreThenAnd, _) => (true, any, per_or_dat, false),
-        (Instruction::StoreThenOr, 0..=1) => (true, any, 0x80 >> random.below(6), true),
-        (Instruction::StoreThenOr, 2) => (true, true, any_bit, true),
+        (Instruction::StoreThenOr, 0..=3) => (true, any, 0x80 >> random.below(6), true),
+        (Instruction::StoreThenOr, 4..=5) => (true, true, any_bit, true),
         (Instruction::StoreThenOr, _) => (false, true, any_bit, true),
         _ => return None,
     };

@@ -2,7 +2,8 @@
 //! that one left them.
 
 use super::build::permit;
-use super::draft::{Draft, Role};
+use super::draft::Draft;
+use super::item::Role;
 use crate::address::subtract;
 use crate::attempt::Instruction;
 use crate::call::Request;

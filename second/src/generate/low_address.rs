@@ -1,7 +1,8 @@
 //! Operands at and near the logical addresses 0 to 511, which bit 3 of control register 0 protects against operand
 //! stores (document 02, R-6).
 
-use super::draft::{Draft, Items, Role};
+use super::draft::Draft;
+use super::item::{Items, Role};
 use super::random::Random;
 use super::tables::Mapping;
 use crate::address::{add, subtract, ADDRESS_MASK};
@@ -9,10 +10,10 @@ use crate::guest::Guest;
 use crate::setup::LOW_ADDRESS_PROTECTION;
 
 /// Share of the operand stores that are built near these addresses, in percent.
-const NEAR: u32 = 45;
+const NEAR: u32 = 47;
 
 /// Share of the virtual PSWs that are looked for there, in percent.
-const FIELDS: u32 = 15;
+const FIELDS: u32 = 20;
 
 /// The first logical address that is not protected.
 const FIRST_OPEN: u32 = 512;
@@ -77,8 +78,8 @@ pub fn damage(draft: &mut Draft) {
     if kind != 0 {
         draft.guest.control_register_0 |= LOW_ADDRESS_PROTECTION;
     }
-    // RRB stores at no operand.
-    if kind < 3 && draft.first_halfword >> 8 != 0xB2 {
+    // RRB and LRA store at no operand.
+    if kind < 3 && ![0xB1, 0xB2].contains(&(draft.first_halfword >> 8)) {
         move_operand(draft);
     }
     if draft.guest.dat_on() && draft.random.percent(30) {

@@ -2,11 +2,14 @@
 
 mod build;
 mod build_key;
+mod build_lra;
 mod damage;
 mod damage_fields;
+mod damage_lra;
 mod draft;
 mod expanded;
 mod follow_up;
+mod item;
 mod low_address;
 mod pair;
 mod random;
@@ -24,6 +27,12 @@ pub use sizes::{SizeBudget, LARGEST, LARGEST_LARGE, MIB, MOST_KEYS};
 
 /// Share of the calls that are damaged, in percent.
 const DAMAGED: u32 = 75;
+
+/// Share of LRA among the single calls, in percent: it can end in more places than the others.
+const LRA_IN_SINGLES: u32 = 9;
+
+/// The same in lists and in pairs of lists, where calls that store are wanted most.
+const LRA_IN_LISTS: u32 = 5;
 
 /// Share of the calls of a list that follow an earlier one of the same page, in percent, if there is one.
 const FOLLOWING: u32 = 6;
@@ -47,28 +56,29 @@ pub fn generate_undamaged(seed: u64, index: u64) -> Call {
 
 /// A call in storage of this size, which damage makes no larger than `largest`.
 pub fn generate_of_size(seed: u64, index: u64, size: usize, largest: usize) -> Call {
-    damaged_in_part(built(Draft::new(Random::new(seed, index), size, largest))).call()
+    let draft = Draft::new(Random::new(seed, index), size, largest);
+    damaged_in_part(built(draft, LRA_IN_SINGLES)).call()
 }
 
 fn undamaged(seed: u64, index: u64) -> Draft {
     let mut random = Random::new(seed, index);
     let size = sizes::any_size(&mut random);
-    built(Draft::new(random, size, LARGEST_LARGE))
+    built(Draft::new(random, size, LARGEST_LARGE), LRA_IN_SINGLES)
 }
 
-fn built(mut draft: Draft) -> Draft {
-    let instruction = draw_instruction(&mut draft.random);
+fn built(mut draft: Draft, percent_of_lra: u32) -> Draft {
+    let instruction = draw_instruction(&mut draft.random, percent_of_lra);
     build::build(&mut draft, instruction);
     draft
 }
 
-/// SSM, STNSM and STOSM half as often again as the key instructions, which are also drawn where a list or a pair wants
-/// one; STCTL, which has the most words to place and to test, twice as often.
-fn draw_instruction(random: &mut Random) -> Instruction {
+/// STCTL, which has the most words to place and to test, about twice as often as another; of LRA so many percent.
+fn draw_instruction(random: &mut Random, percent_of_lra: u32) -> Instruction {
     use Instruction::*;
-    match random.below(19) {
-        0..=5 => random.pick(&[SetStorageKey, InsertStorageKey, ResetReferenceBit]),
-        6..=14 => random.pick(&[SetSystemMask, StoreThenAnd, StoreThenOr]),
+    match random.below(43) {
+        _ if random.percent(percent_of_lra) => LoadRealAddress,
+        0..=13 => random.pick(&[SetStorageKey, InsertStorageKey, ResetReferenceBit]),
+        14..=31 => random.pick(&[SetSystemMask, StoreThenAnd, StoreThenOr]),
         _ => StoreControl,
     }
 }
@@ -121,11 +131,11 @@ fn chain(mut draft: Draft, length: usize) -> Chain {
             continue;
         }
         draft.start_request();
-        draft = built(draft);
+        draft = built(draft, LRA_IN_LISTS);
         match draft.random.below(100) {
-            0..=21 => damage_but_sizes(&mut draft),
-            22..=34 => expanded_or_other_damage(&mut draft),
-            35..=51 => low_address::damage(&mut draft),
+            0..=17 => damage_but_sizes(&mut draft),
+            18..=32 => expanded_or_other_damage(&mut draft),
+            33..=50 => low_address::damage(&mut draft),
             _ => {}
         }
         requests.push(draft.request());

@@ -5,7 +5,7 @@ use super::draft::{Draft, Room};
 use super::follow_up::follow_up;
 use super::random::Random;
 use super::twin::twin;
-use super::{build, damage_but_sizes, draw_instruction, expanded};
+use super::{build, damage_but_sizes, draw_instruction, expanded, LRA_IN_LISTS};
 use crate::attempt::Instruction;
 use crate::call::Request;
 use crate::pairs::{keep_to_their_parts, Pair};
@@ -105,8 +105,11 @@ fn next_request(draft: &mut Draft, earlier: &[Request], psw_key: u32) -> Request
     draft.start_request();
     draft.guest.psw_0_31 = draft.guest.psw_0_31 & 0xFF0F_FFFF | psw_key << 20;
     let set_a_key = [Instruction::SetStorageKey, Instruction::ResetReferenceBit];
-    let instruction =
-        if earlier.is_empty() { draft.random.pick(&set_a_key) } else { draw_instruction(&mut draft.random) };
+    let instruction = if earlier.is_empty() {
+        draft.random.pick(&set_a_key)
+    } else {
+        draw_instruction(&mut draft.random, LRA_IN_LISTS)
+    };
     build::build(draft, instruction);
     match draft.random.below(100) {
         0..=9 => damage_but_sizes(draft),

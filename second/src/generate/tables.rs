@@ -1,6 +1,9 @@
-//! Segment and page tables for the logical pages that a drafted call uses.
+//! Segment and page tables for the pages that a drafted call uses: logical pages, which DAT translates, and for LRA
+//! virtual pages, which the real tables of MICRSEG translate.
 
-use super::draft::{Draft, Items, Role};
+use super::draft::Draft;
+use super::item::{Items, Role};
+use super::random::Random;
 use crate::address::{add, subtract};
 
 /// Sizes as shifts: 11 or 12, 16 or 20.
@@ -11,35 +14,65 @@ pub struct Shifts {
 }
 
 impl Shifts {
+    pub fn draw(random: &mut Random) -> Shifts {
+        Shifts { page: random.pick(&[11, 12]), segment: random.pick(&[16, 20]) }
+    }
+
     /// Control register 0 bits 8-12 for this format.
-    fn control_bits(self) -> u32 {
+    pub fn control_bits(self) -> u32 {
         let page_bits = if self.page == 12 { 0b10000 } else { 0b01000 };
         page_bits | if self.segment == 20 { 0b00010 } else { 0 }
     }
 
-    fn page_index(self, logical: u32) -> u32 {
+    pub fn segment_index(self, logical: u32) -> u32 {
+        logical >> self.segment
+    }
+
+    pub fn page_index(self, logical: u32) -> u32 {
         (logical >> self.page) & ((1 << (self.segment - self.page)) - 1)
     }
 
-    fn leftmost_four(self, logical: u32) -> u32 {
+    pub fn leftmost_four(self, logical: u32) -> u32 {
         (logical >> (self.segment - 4)) & 15
     }
 }
 
-/// Logical pages with their frames.
+/// Pages with their frames.
 #[derive(Clone, Debug)]
 pub struct Mapping {
     pub shifts: Shifts,
     pages: Vec<(u32, u32)>,
 }
 
+/// The entries of a page that has been put in tables.
+#[derive(Clone, Copy, Debug)]
+pub struct Entries {
+    page: u32,
+    pub segment_entry: u32,
+    pub page_entry: u32,
+}
+
+/// Tables that have been put in storage.
+pub struct Tables {
+    pub origin: u32,
+    /// Length as the first byte of control register 1 or of MICRSEG has it.
+    pub length: u32,
+    /// For each page; the pages of a segment one after the other.
+    entries: Vec<Entries>,
+}
+
 impl Mapping {
-    /// A random format, put in control register 0.
-    pub fn new(draft: &mut Draft) -> Mapping {
-        let shifts = Shifts { page: draft.random.pick(&[11, 12]), segment: draft.random.pick(&[16, 20]) };
+    /// Nothing mapped yet, in a random format.
+    pub fn new(random: &mut Random) -> Mapping {
+        Mapping { shifts: Shifts::draw(random), pages: Vec::new() }
+    }
+
+    /// The same for DAT: the format is put in control register 0.
+    pub fn for_dat(draft: &mut Draft) -> Mapping {
+        let mapping = Mapping::new(&mut draft.random);
         draft.guest.control_register_0 =
-            (draft.guest.control_register_0 & 0xFF07_FFFF) | shifts.control_bits() << 19;
-        Mapping { shifts, pages: Vec::new() }
+            (draft.guest.control_register_0 & 0xFF07_FFFF) | mapping.shifts.control_bits() << 19;
+        mapping
     }
 
     pub fn page_size(&self) -> u32 {
@@ -84,7 +117,7 @@ impl Mapping {
         true
     }
 
-    fn frame_of(&self, page: u32) -> Option<u32> {
+    pub fn frame_of(&self, page: u32) -> Option<u32> {
         self.pages.iter().find(|&&(one, _)| one == page).map(|&(_, frame)| frame)
     }
 
@@ -112,22 +145,36 @@ impl Mapping {
         fits
     }
 
-    /// Put the segment table and the page tables in storage, and control register 1.
+    /// For DAT: put the segment table and the page tables in storage, and control register 1.
     pub fn put_tables(&self, draft: &mut Draft) {
+        let tables = self.put_entries(draft);
+        let other_bits = draft.random.below(64);
+        draft.guest.control_register_1 = tables.length << 24 | tables.origin | other_bits;
+        let mut noted = None;
+        for entries in tables.entries {
+            if noted.replace(entries.segment_entry) != Some(entries.segment_entry) {
+                draft.note(Role::SegmentEntry, entries.segment_entry);
+            }
+            draft.note(Role::PageEntry, entries.page_entry);
+        }
+    }
+
+    /// Put the segment table and the page tables in storage.
+    pub fn put_entries(&self, draft: &mut Draft) -> Tables {
         let mut segments: Vec<u32> = self.pages.iter().map(|&(page, _)| self.segment_of_page(page)).collect();
         segments.sort_unstable();
         segments.dedup();
         let origin = table_origin(draft, &segments, 4, 64);
         let highest = self.pages.iter().map(|&(page, _)| page << self.shifts.page >> 20).max().unwrap_or(0);
         let length = highest + draft.random.pick(&[0, 0, 1, 200]);
-        let other_bits = draft.random.below(64);
-        draft.guest.control_register_1 = length << 24 | origin | other_bits;
+        let mut entries = Vec::new();
         for segment in segments {
-            self.put_page_table(draft, origin, segment);
+            entries.extend(self.put_page_table(draft, origin, segment));
         }
+        Tables { origin, length, entries }
     }
 
-    fn put_page_table(&self, draft: &mut Draft, segment_table: u32, segment: u32) {
+    fn put_page_table(&self, draft: &mut Draft, segment_table: u32, segment: u32) -> Vec<Entries> {
         let shifts = self.shifts;
         let pages: Vec<(u32, u32)> =
             self.pages.iter().copied().filter(|&(page, _)| self.segment_of_page(page) == segment).collect();
@@ -136,19 +183,27 @@ impl Mapping {
         let origin = table_origin(draft, &indexes, 2, 8);
         let highest = pages.iter().map(|&(page, _)| shifts.leftmost_four(page << shifts.page)).max();
         let length = (highest.unwrap_or(0) + draft.random.pick(&[0, 0, 1, 15])).min(15);
-        let entry_address = add(segment_table, 4 * segment);
+        let segment_entry = add(segment_table, 4 * segment);
         let other_bits = draft.random.pick(&[0, 2, 4, 6]);
-        draft.image.put_word(entry_address, length << 28 | origin | other_bits);
-        draft.note(Role::SegmentEntry, entry_address);
-        for ((_, frame), index) in pages.into_iter().zip(indexes) {
+        draft.image.put_word(segment_entry, length << 28 | origin | other_bits);
+        let put_page = |((page, frame), index): ((u32, u32), u32)| {
+            let page_entry = add(origin, 2 * index);
             let entry = frame << (shifts.page - 8) | draft.random.below(2);
-            draft.image.put_halfword(add(origin, 2 * index), entry as u16);
-            draft.note(Role::PageEntry, add(origin, 2 * index));
-        }
+            draft.image.put_halfword(page_entry, entry as u16);
+            Entries { page, segment_entry, page_entry }
+        };
+        pages.into_iter().zip(indexes).map(put_page).collect()
     }
 
     fn segment_of_page(&self, page: u32) -> u32 {
         page >> (self.shifts.segment - self.shifts.page)
+    }
+}
+
+impl Tables {
+    /// The entries of the page of this address, if it is mapped.
+    pub fn entries_of(&self, mapping: &Mapping, logical: u32) -> Option<Entries> {
+        self.entries.iter().copied().find(|entries| entries.page == logical >> mapping.shifts.page)
     }
 }
 

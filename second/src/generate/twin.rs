@@ -1,29 +1,36 @@
 //! A request for the other list that reads what the request just drafted reads, and stores elsewhere.
 
 use super::build::permit;
-use super::draft::{Draft, Role};
+use super::draft::Draft;
+use super::item::Role;
 use super::low_address;
 use crate::address::{add, subtract};
 use crate::attempt::Instruction;
 use crate::call::Request;
 
-/// For SSM, for STCTL with DAT off, and for ISK of an invalid page, which reads no key; else none.
+/// For SSM, for STCTL with DAT off, for ISK of an invalid page, which reads no key, and for LRA; else none.
 pub fn twin(draft: &mut Draft) -> Option<Request> {
     match Instruction::of_first_halfword(draft.first_halfword)? {
         Instruction::SetSystemMask => set_system_mask_twin(draft),
         Instruction::StoreControl if !draft.guest.dat_on() => store_control_twin(draft),
         Instruction::InsertStorageKey => insert_storage_key_twin(draft),
+        Instruction::LoadRealAddress => Some(with_another_r1(draft)),
         _ => None,
     }
 }
 
-/// Another R1; all fields are shared.
 fn insert_storage_key_twin(draft: &mut Draft) -> Option<Request> {
     let page_entry = draft.find(&[Role::RealPageEntry])?.address;
     let invalid = draft.image.byte(add(page_entry, 1)) & 0x08 != 0;
+    let request = with_another_r1(draft);
+    invalid.then_some(request)
+}
+
+/// All fields are shared.
+fn with_another_r1(draft: &mut Draft) -> Request {
     let mut request = draft.request();
     request.first_halfword = request.first_halfword & 0xFF0F | (draft.random.below(16) << 4) as u16;
-    invalid.then_some(request)
+    request
 }
 
 /// Another MICBLOK and virtual PSW; the ECBLOK, the instruction, its operand and all tables are shared.

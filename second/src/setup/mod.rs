@@ -2,6 +2,7 @@
 
 mod dat;
 mod key_instructions;
+mod load_real_address;
 
 use crate::call::{Call, Request, StorageImage};
 use crate::guest::Guest;
@@ -9,6 +10,13 @@ use crate::guest::Guest;
 pub use dat::{PAGE_TABLES, PSW_DAT, SEGMENT_TABLE};
 pub use key_instructions::{
     PAGE_ENTRY, REAL_PAGE_TABLE, REAL_SEGMENT_TABLE, SEGMENT_ENTRY, SWAP_ADDRESS, SWAP_TABLE, SWAP_WORD,
+};
+pub use load_real_address::{
+    FIRST_PAGE_ENTRY, FIRST_PAGE_ENTRY_2K, FIRST_SEGMENT_ENTRY, LRA_ADDRESS, MICRSEG, MICRSEG_1M, MICRSEG_2K,
+    SECOND_PAGE_ENTRY, SECOND_PAGE_ENTRY_2K, SECOND_PAGE_TABLE, SECOND_SEGMENT_ENTRY, VIRTUAL_2K_1M,
+    VIRTUAL_2K_64K, VIRTUAL_4K_1M, VIRTUAL_4K_64K, VIRTUAL_PAGE_ENTRY, VIRTUAL_PAGE_ENTRY_1M,
+    VIRTUAL_PAGE_ENTRY_2K, VIRTUAL_PAGE_ENTRY_2K_1M, VIRTUAL_PAGE_TABLE, VIRTUAL_PAGE_TABLE_REAL,
+    VIRTUAL_SEGMENT_ENTRY, VIRTUAL_SEGMENT_ENTRY_1M, VIRTUAL_SEGMENT_TABLE, VIRTUAL_SEGMENT_TABLE_REAL,
 };
 
 pub const MICBLOK: u32 = 0x400;
@@ -156,6 +164,18 @@ impl Setup {
 
     pub fn register(mut self, number: usize, value: u32) -> Setup {
         self.guest.general_registers[number] = value;
+        self
+    }
+
+    /// Another first halfword; what stands at the instruction stays, as no call looks at it.
+    pub fn first_halfword(mut self, first_halfword: u16) -> Setup {
+        self.first_halfword = first_halfword;
+        self
+    }
+
+    /// PSW bits 18-19.
+    pub fn condition_code(mut self, code: u32) -> Setup {
+        self.guest.psw_0_31 = (self.guest.psw_0_31 & !0x0000_3000) | (code << 12);
         self
     }
 

@@ -13,7 +13,7 @@ pub struct Entry {
     pub first_halfword: u16,
     pub expanded_installed: bool,
     pub ending: u8,
-    /// For ISK and RRB the place in ending 3. Zero where there is none.
+    /// For ISK, RRB and LRA the place in ending 3. Zero where there is none.
     pub code_or_step: u16,
     pub count: u16,
     /// Instruction address of the record that the call handed back.

@@ -6,7 +6,7 @@ pub mod text;
 use crate::call::{Request, StorageImage};
 use crate::fixed::{self, FixedList};
 use crate::generate::{generate_chain_of_size, generate_pair, Random, SizeBudget};
-use crate::report::{micrseg, Tally};
+use crate::report::{TableWords, Tally};
 use singles::Singles;
 use text::CallFile;
 
@@ -80,9 +80,9 @@ impl VectorSet {
     }
 
     fn call(&mut self, request: &Request) {
-        let micrseg = micrseg(&self.file.storage, request);
+        let words = TableWords::of(&self.file.storage, request);
         let answer = self.file.call(request);
-        self.tally.add(request, micrseg, &answer);
+        self.tally.add(request, words, &answer);
     }
 
     fn list(&mut self, image: &StorageImage, requests: &[Request]) {
@@ -97,7 +97,7 @@ impl VectorSet {
         for (title, lists) in fixed::all() {
             let calls = self.fixed_lists(title, &lists);
             match title {
-                title if title.starts_with("Figures") => self.shares.figures += calls,
+                title if title.starts_with("Figure") => self.shares.figures += calls,
                 title if title.starts_with("Lists") => self.shares.in_lists += calls,
                 _ => self.shares.single += calls,
             }

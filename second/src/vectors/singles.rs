@@ -6,7 +6,8 @@ use crate::attempt::{Answer, Instruction};
 use crate::call::Call;
 use crate::generate::{generate_of_size, LARGEST, LARGEST_LARGE};
 use crate::references::{Reference, ReferenceKind};
-use crate::report::{point, translation_words, Point};
+use crate::report::{point, translation_words, Point, TableWords};
+use crate::translation::{segment_format_wrong, segment_invalid};
 
 /// Calls among which the one with the most seldom ending is chosen.
 const CANDIDATES: u64 = 32;
@@ -15,9 +16,10 @@ const CANDIDATES: u64 = 32;
 const ROUND_TRIALS: u64 = 10_000;
 
 /// Items that can go round from FFFFFF to 000000.
-const ROUND_ITEMS: [RoundItem; 8] = [
+const ROUND_ITEMS: [RoundItem; 9] = [
     RoundItem::Micblok,
     RoundItem::VirtualRegister,
+    RoundItem::VirtualRegisterOfLra,
     RoundItem::VirtualPsw,
     RoundItem::SwapWord(Instruction::SetStorageKey),
     RoundItem::SwapWord(Instruction::InsertStorageKey),
@@ -30,7 +32,9 @@ const ROUND_ITEMS: [RoundItem; 8] = [
 enum RoundItem {
     /// MICVPSW at 000000, after MICRSEG and MICCREG at FFFFF8 and FFFFFC.
     Micblok,
+    /// Of SSM or STCTL.
     VirtualRegister,
+    VirtualRegisterOfLra,
     VirtualPsw,
     SwapWord(Instruction),
     /// Words of STCTL at FFFFFC and 000000.
@@ -50,12 +54,17 @@ pub struct Singles {
 /// Where a call ended, and in which way.
 type Reached = (Point, Way);
 
-/// For an access of RRB the format. For a word of STCTL whether another has passed its test before. For a mask that
-/// does not pass the mode of the virtual PSW, whether the expanded assist is installed, and whether it is switched on.
+/// For an access of RRB the format. For a completed LRA the formats of its real and its virtual tables; for an entry
+/// that it refuses what is wrong with it, or its page size. For a word of STCTL whether another has passed its test
+/// before. For a mask that does not pass the mode of the virtual PSW, whether the expanded assist is installed, and
+/// whether it is switched on.
 #[derive(Clone, Copy, Debug, PartialEq, Eq, PartialOrd, Ord)]
 enum Way {
     Only,
     Format(&'static str),
+    Load(&'static str, &'static str),
+    SegmentEntry { invalid: bool, wrong_format: bool },
+    PageEntry { pages_of_2k: bool },
     Word { another_passed: bool },
     Mask { ec_mode: bool, installed: bool, switched_on: bool },
 }
@@ -70,6 +79,7 @@ fn way(call: &Call, answer: &Answer) -> Way {
     let request = &call.request;
     match (Instruction::of_first_halfword(request.first_halfword), answer.at_step) {
         (Some(ResetReferenceBit), 4) => Way::Format(translation_words(request)),
+        (Some(LoadRealAddress), step) => load_way(call, answer, step),
         (Some(StoreControl), 5) if answer.at_walk_step != 0 => {
             Way::Word { another_passed: another_word_passed(answer) }
         }
@@ -78,6 +88,23 @@ fn way(call: &Call, answer: &Answer) -> Way {
             installed: request.expanded,
             switched_on: request.guest.expanded_switched_on(),
         },
+        _ => Way::Only,
+    }
+}
+
+/// Steps 9, 11, 18 and 20 are for entries of the real tables, step 23 for one of the virtual tables. The entry was
+/// fetched last.
+fn load_way(call: &Call, answer: &Answer, step: u8) -> Way {
+    let (real, virtual_format) = TableWords::of(&call.image.storage(), &call.request).formats();
+    let last = answer.references.last().and_then(|entry| entry.bytes.first());
+    let entry = last.map_or(0, |&address| call.image.word(address));
+    match step {
+        _ if answer.ending.number() == 0 => Way::Load(real, virtual_format),
+        9 | 18 => {
+            Way::SegmentEntry { invalid: segment_invalid(entry), wrong_format: segment_format_wrong(entry) }
+        }
+        11 | 20 => Way::PageEntry { pages_of_2k: real.starts_with("2K") },
+        23 => Way::PageEntry { pages_of_2k: virtual_format.starts_with("2K") },
         _ => Way::Only,
     }
 }
@@ -98,16 +125,16 @@ impl Singles {
         Singles { seed, large, made: 0, drawn: 0, reached: BTreeMap::new() }
     }
 
-    /// Every other call as it is drawn, every other one chosen.
+    /// Two of three calls are chosen, the third is as it is drawn; in a large set every other one.
     pub fn next(&mut self, size: usize) -> Call {
         self.made += 1;
-        let call = if self.made % 2 == 1 {
-            self.draw(size)
-        } else if self.large {
+        let call = if self.large && self.made.is_multiple_of(2) {
             let item = ROUND_ITEMS[(self.made / 2) as usize % ROUND_ITEMS.len()];
             self.going_round(item)
-        } else {
+        } else if !self.large && !self.made.is_multiple_of(3) {
             self.seldom(size)
+        } else {
+            self.draw(size)
         };
         *self.reached.entry(reached(&call)).or_default() += 1;
         call
@@ -155,6 +182,7 @@ impl RoundItem {
         let instructions: &[Instruction] = match &self {
             RoundItem::Micblok => return call.request.guest.micblok_address() == 0xFF_FFF8,
             RoundItem::VirtualRegister => &[SetSystemMask, StoreControl],
+            RoundItem::VirtualRegisterOfLra => &[LoadRealAddress],
             RoundItem::VirtualPsw => &[SetSystemMask, StoreThenAnd, StoreThenOr, InsertStorageKey],
             RoundItem::SwapWord(instruction) => std::slice::from_ref(instruction),
             RoundItem::Operand => &[StoreControl],
@@ -183,15 +211,16 @@ fn round_items(call: &Call) -> Vec<RoundItem> {
         items.push(RoundItem::Micblok);
     }
     let goes_round = |entry: &&Reference| entry.bytes.windows(2).any(|two| two == [0xFF_FFFF, 0]);
+    let instruction = Instruction::of_first_halfword(call.request.first_halfword);
     for entry in answer.references.iter().filter(goes_round) {
         match (entry.kind, entry.bytes.len()) {
+            (ReferenceKind::VirtualRegister, _) if instruction == Some(Instruction::LoadRealAddress) => {
+                items.push(RoundItem::VirtualRegisterOfLra);
+            }
             (ReferenceKind::VirtualRegister, _) => items.push(RoundItem::VirtualRegister),
             (ReferenceKind::ControlField, 2) => items.push(RoundItem::VirtualPsw),
             // MICBLOK's words and table entries are on their boundaries.
-            (ReferenceKind::ControlField, 4) => {
-                let instruction = Instruction::of_first_halfword(call.request.first_halfword);
-                items.extend(instruction.map(RoundItem::SwapWord));
-            }
+            (ReferenceKind::ControlField, 4) => items.extend(instruction.map(RoundItem::SwapWord)),
             _ => {}
         }
     }

@@ -26,6 +26,11 @@ impl Expected {
         Expected { set: Set::Register(number, contents), ..self }
     }
 
+    /// LRA: register R1 and real PSW bits 18-19 afterwards.
+    pub fn register_and_code(self, number: usize, contents: u32, code: u32) -> Expected {
+        Expected { set: Set::RegisterAndCode(number, contents, code), ..self }
+    }
+
     /// RRB: real PSW bits 18-19 afterwards.
     pub fn condition_code(self, code: u32) -> Expected {
         Expected { set: Set::ConditionCode(code), ..self }

@@ -26,7 +26,7 @@ pub fn page_translation(logical_address: u32) -> (u32, u32, u32) {
     (1, 17, logical_address)
 }
 
-/// Ending 3: the step, for ISK and RRB the place.
+/// Ending 3: the step, for ISK, RRB and LRA the place.
 pub fn not_in_storage(step_or_place: u32) -> (u32, u32, u32) {
     (3, step_or_place, 0)
 }

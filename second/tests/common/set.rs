@@ -1,4 +1,5 @@
-//! What an instruction sets in the record on completion, besides moving the instruction address on (document 02, R-4).
+//! What an instruction sets in the record on completion, besides moving the instruction address on (document 02, R-4,
+//!
 #![allow(dead_code)]
 
 use second::Guest;
@@ -10,6 +11,8 @@ pub enum Set {
     Register(usize, u32),
     /// RRB: real PSW bits 18-19.
     ConditionCode(u32),
+    /// LRA: general register R1 with its whole contents, and real PSW bits 18-19.
+    RegisterAndCode(usize, u32, u32),
 }
 
 impl Set {
@@ -19,6 +22,10 @@ impl Set {
             Set::Nothing => {}
             Set::Register(number, contents) => record.general_registers[number] = contents,
             Set::ConditionCode(code) => record.psw_0_31 = record.psw_0_31 & 0xFFFF_CFFF | (code * 0x1000),
+            Set::RegisterAndCode(number, contents, code) => {
+                record = Set::Register(number, contents).in_record(record);
+                record = Set::ConditionCode(code).in_record(record);
+            }
         }
         record
     }

@@ -1,5 +1,5 @@
 //! Every edge against values worked out by hand from document 01, with the keys as document 02, R-13 has them,
-//! and those of low-address protection (R-6); with control register 6 bit 6 as R-3 has it.
+//! those of low-address protection (R-6) and of LRA (R-9); with control register 6 bit 6 as R-3 has it.
 //!
 //! Set-up (see `setup.rs`): 16 KiB, PSW key zero, DAT off, instruction at 1000, operand at 2000, MICBLOK at 400,
 //! ECBLOK at 500, virtual PSW at 600. Virtual register r is the word A0B0C0D0 + r times 01010101.
@@ -7,6 +7,8 @@
 #[path = "../common/expected.rs"]
 mod expected;
 mod insert_key;
+mod load_address;
+mod load_address_troubles;
 mod low_addresses;
 mod recording;
 mod reset_bit;
@@ -17,6 +19,8 @@ use std::collections::BTreeSet;
 
 use expected::Expected;
 use insert_key::*;
+use load_address::{large_load_real_address, load_real_address};
+use load_address_troubles::load_real_address_troubles;
 use low_addresses::*;
 use recording::*;
 use reset_bit::*;
@@ -31,6 +35,8 @@ fn expectations() -> Vec<Expected> {
     list.extend(set_storage_key());
     list.extend(insert_storage_key());
     list.extend(reset_reference_bit());
+    list.extend(load_real_address());
+    list.extend(load_real_address_troubles());
     list.extend(set_storage_key_recording());
     list.extend(other_recording());
     list.extend(store_then_low());
@@ -54,6 +60,7 @@ fn every_edge_in_16_mib_gives_what_the_paper_says() {
     list.extend(large_low());
     list.push(large_insert_storage_key());
     list.push(large_reset_reference_bit());
+    list.extend(large_load_real_address());
     check(&large(), &list);
 }
 
@@ -87,18 +94,20 @@ fn storage_of_the_edges() {
 }
 
 /// 45 small edges and 4 large ones are those of document 01, recording and the wrong turns; 14 more since document 02,
-/// R-3, 21 and 2 of low-address protection; 34 of ISK and 38 of RRB, and one each in 16 MiB (R-4).
+/// R-3, 21 and 2 of low-address protection; 34 of ISK and 38 of RRB, and one each in 16 MiB (R-4); 107 and 3 of LRA
+/// (R-9).
 #[test]
 fn number_of_edges() {
-    assert_eq!((small().len(), large().len()), (45 + 14 + 21 + 34 + 38, 4 + 2 + 2));
+    assert_eq!((small().len(), large().len()), (45 + 14 + 21 + 34 + 38 + 107, 4 + 2 + 2 + 3));
     let case = |place: usize| small()[place].case.clone();
     assert!(
         case(32).ends_with("old key 04, valid page, bit 20 one") && case(33).starts_with("EC, page valid")
     );
     assert!(case(66).starts_with("virtual PSW in the page") && case(67).starts_with("key F9, swap word"));
-    assert!(case(104) == "first halfword B214" && case(105) == "tables in the page's own block");
-    assert!(case(111).contains("store test records nothing") && case(112).contains("bit 3"));
-    assert!(case(132).contains("bit 3") && case(133).starts_with("wrong turn 1"));
+    assert!(case(104) == "first halfword B214" && case(105).starts_with("virtual pages 2K, segments 64K"));
+    assert!(case(211) == "first halfword B030" && case(212) == "tables in the page's own block");
+    assert!(case(218).contains("store test records nothing") && case(219).contains("bit 3"));
+    assert!(case(239).contains("bit 3") && case(240).starts_with("wrong turn 1"));
 }
 
 /// Document 01 marks three edges of STCTL, five of SSM, two of STNSM, one of STOSM, which is given in both modes, and
@@ -107,8 +116,8 @@ fn number_of_edges() {
 fn marked_edges() {
     let marked =
         |mnemonic: &str| small().iter().filter(|edge| edge.marked && edge.mnemonic() == mnemonic).count();
-    let counts = ["STCTL", "SSM", "STNSM", "STOSM", "SSK", "ISK", "RRB", "other"].map(marked);
-    assert_eq!(counts, [3, 5 + 3, 2 + 1, 2, 2, 0, 0, 0]);
+    let counts = ["STCTL", "SSM", "STNSM", "STOSM", "SSK", "ISK", "RRB", "LRA", "other"].map(marked);
+    assert_eq!(counts, [3, 5 + 3, 2 + 1, 2, 2, 0, 0, 0, 0]);
     assert!(large().iter().all(|edge| !edge.marked));
 }
 
@@ -134,9 +143,10 @@ fn set_up_of_bit_6() {
     }
 }
 
-/// ISK's register and RRB's condition code stand in the line, whatever the ending; ending 3 has the place.
+/// ISK's register, RRB's condition code and both for LRA stand in the line, whatever the ending; ending 3 has the
+/// place.
 #[test]
-fn lines_of_the_key_instructions() {
+fn lines_with_what_is_handed_back() {
     let lines: Vec<String> = small().iter().map(Edge::line).collect();
     for line in [
         "ISK   R1 and R2 register 15 | ending 0 completed | count 8 | next 001002 | register 15: 5A0230AE | \
@@ -147,12 +157,17 @@ fn lines_of_the_key_instructions() {
          condition code 3 | bytes: 000D18: 50 -> 5C; keys: 0: 00 -> 04, 1: 00 -> 06, 2: 00 -> 04, 4: FF -> FB",
         "RRB   second halfword's page invalid | ending 1 interruption 17 (page translation at 001002) | count 3 \
          | next 001000 | condition code 1 | bytes: none; keys: 0: 00 -> 04, 6: 00 -> 04",
+        "LRA   virtual pages 2K, segments 1M, real pages 4K, page entry invalid | ending 0 completed | count 12 \
+         | next 001004 | register 3: 00056E1E | condition code 2 | bytes: none; keys: 0: 00 -> 04, 1: 00 -> 04, \
+         2: 00 -> 04, 3: 00 -> 04, 5: 00 -> 04",
+        "LRA   ECBLOK at 3FFC | ending 3 not in storage, place 4 | count 3 | next 001000 | register 3: ABCDEF3F \
+         | condition code 1 | bytes: none; keys: 0: 00 -> 04, 7: 00 -> 04",
         "other first halfword B212 | ending 13 operation code | count 0 | next 001000 | bytes: none; keys: none",
     ] {
         assert!(lines.iter().any(|one| one == line), "{line}");
     }
     let with = |words: &str| lines.iter().filter(|line| line.contains(words)).count();
-    assert_eq!((with(" | register "), with(" | condition code ")), (34, 36));
+    assert_eq!((with(" | register "), with(" | condition code ")), (34 + 106, 36 + 106));
 }
 
 #[test]

@@ -8,6 +8,7 @@ pub fn impostors() -> Vec<Expected> {
     list.extend(list_of_keys());
     list.extend(list_of_register_0());
     list.extend(list_of_one_page());
+    list.extend(list_of_loads());
     list
 }
 
@@ -84,6 +85,29 @@ fn list_of_one_page() -> Vec<Expected> {
         call(third, 8, &[(0xD1A, 0xF9, 0xC4)], &[(4, 0xFB, 0xC1)], 0x1006),
         // C0, and the virtual reference bit; C1 has neither.
         call(fourth, 8, &[], &[], 0x1008).register(3, 0xABCD_EFC4),
+    ]
+}
+
+/// LRA of 345E78: virtual segment entry 50056D08 at 2910 (64K; virtual address 123910), 40056D08 at 284C (1M).
+fn list_of_loads() -> Vec<Expected> {
+    let lra = |case, count, keys: &[Change], register, code| {
+        expect(("LRA", case), COMPLETED, count, &[], keys, 0x1004).register_and_code(3, register, code)
+    };
+    let stctl = |case, count, bytes: &[Change], keys: &[Change]| {
+        expect(("STCTL", case), COMPLETED, count, bytes, keys, 0x1004)
+    };
+    let read = [0, 1, 2, 3, 5].map(|block| (block, 0x00, 0x04));
+    let over_entry = [(0x2910, 0x50, 0xA5), (0x2911, 0x05, 0xB5), (0x2912, 0x6D, 0xC5), (0x2913, 0x08, 0xD5)];
+    // 00800000 becomes 00500000 (2K, 1M), and 03123840 becomes 00123840.
+    let over_registers = [(0x501, 0x80, 0x50), (0x504, 0x03, 0x00)];
+    let case_2 = "list of five, call 2: register 5 stored over the segment entry";
+    let case_4 = "list of five, call 4: registers 8 and 9 stored over 0 and 1";
+    vec![
+        lra("list of five, call 1: code 0", 12, &read, 0x00AB_CE78, 0),
+        stctl(case_2, 6, &over_entry, &[(5, 0x04, 0x06)]),
+        lra("list of five, call 3: code 1 from call 2", 9, &[], 0x0012_3910, 1),
+        stctl(case_4, 9, &over_registers, &[(0, 0x04, 0x06)]),
+        lra("list of five, call 5: another format from call 4", 12, &[], 0x009A_B678, 0),
     ]
 }
 

@@ -9,12 +9,16 @@ mod expanded;
 mod expected;
 mod figure_10;
 mod figure_6;
+mod figure_9;
 mod figures_13_14;
 mod figures_15_to_18;
 mod figures_7_11;
 mod impostors;
 mod key_steps;
 mod low_addresses;
+mod lra_address;
+mod lra_formats;
+mod lra_steps;
 mod mask_bits;
 mod order;
 mod other_codes;
@@ -25,7 +29,10 @@ use std::collections::{BTreeMap, BTreeSet};
 
 use expected::Expected;
 use second::call::changes;
-use second::fixed::{self, figures, impostor_lists, key_figures, own_blocks, Field, FixedList};
+use second::fixed::{
+    self, figures, impostor_lists, key_figures, lra_addresses, lra_figure, lra_formats, own_blocks, Field,
+    FixedList,
+};
 use second::{Call, Guest, ReferenceKind};
 
 #[test]
@@ -46,6 +53,21 @@ fn figures_of_the_key_instructions_give_what_the_papers_say() {
     expectations.extend(figure_10::figure_10());
     expectations.extend(figures_7_11::figure_11());
     check(&key_figures(), &expectations);
+}
+
+#[test]
+fn figure_of_lra_gives_what_the_papers_say() {
+    check(&lra_figure(), &figure_9::figure_9());
+}
+
+#[test]
+fn condition_codes_of_lra_in_every_format() {
+    check(&lra_formats(), &lra_formats::lra_formats());
+}
+
+#[test]
+fn addresses_of_lra_give_what_the_papers_say() {
+    check(&lra_addresses(), &lra_address::lra_addresses());
 }
 
 #[test]
@@ -126,7 +148,7 @@ fn looked_for_elsewhere(call: &Call, field: Field, shift: u32) -> Call {
 #[test]
 fn a_field_looked_for_elsewhere_gives_something_else() {
     let mut fields = 0;
-    for list in figures().into_iter().chain(key_figures()) {
+    for list in figures().into_iter().chain(key_figures()).chain(lra_figure()) {
         let call = Call { image: list.image.clone(), request: list.calls[0].request };
         let right = outcome(&call);
         for field in list.fields {
@@ -137,5 +159,5 @@ fn a_field_looked_for_elsewhere_gives_something_else() {
             }
         }
     }
-    assert!(fields > 270, "{fields}");
+    assert!(fields > 640, "{fields}");
 }

@@ -156,6 +156,21 @@ fn taken_from_key_instructions() {
     assert_eq!(taken(&Setup::rrb().dat(0b10000)), (1, 17, 2, 0x1000, 0x1002));
 }
 
+/// LRA likewise.
+#[test]
+fn taken_from_load_real_address() {
+    assert_eq!(taken(&Setup::lra()), (0, 0, 12, 0x1004, 0));
+    // Segment entry invalid: condition code 1, completed all the same.
+    assert_eq!(taken(&Setup::lra().word(0x2910, 0x5005_6D09)), (0, 0, 9, 0x1004, 0));
+    // ECBLOK at 3FFC: place 4. Page table of the second walk at 4000: place 8.
+    assert_eq!(taken(&Setup::lra().word(0x404, 0x3FFC)), (3, 4, 3, 0x1000, 0));
+    assert_eq!(taken(&Setup::lra().word(0x814, 0x6000_4000)), (3, 8, 10, 0x1000, 0));
+    // A virtual entry that is not in storage is refused.
+    assert_eq!(taken(&Setup::lra().halfword(0xC16, 0x0040)), (1, 2, 8, 0x1000, 0));
+    // Four fields, segment entry; page index 1 exceeds length 0.
+    assert_eq!(taken(&Setup::lra().dat(0b10000)), (1, 17, 5, 0x1000, 0x1002));
+}
+
 /// The address is bits 40-63 of the PSW handed back; bits 32-39 are no part of it, and it goes round.
 #[test]
 fn next_address_has_24_bits() {

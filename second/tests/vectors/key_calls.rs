@@ -28,7 +28,7 @@ fn valid(answer: &Answer) -> &'static str {
 }
 
 /// Real PSW bits 5 and, in control register 0, 8-12.
-fn format(call: &ReadCall) -> &'static str {
+pub fn dat_format(call: &ReadCall) -> &'static str {
     let guest = &call.request.guest;
     match (guest.psw_0_31 & 0x0400_0000 != 0, guest.control_register_0 >> 19 & 31) {
         (false, _) => "DAT off",
@@ -104,14 +104,14 @@ impl KeyTally {
         let halfword = |entry: &Reference| entry.kind == ReferenceKind::InstructionHalfword;
         let fetched = answer.references.iter().any(halfword);
         if ending.0 == 1 && !fetched && ending.1 != 2 {
-            self.found(format!("RRB, {}, code {}", format(call), ending.1));
+            self.found(format!("RRB, {}, code {}", dat_format(call), ending.1));
         }
         if ending.0 == 0 {
             let new = answer.guest.psw_0_31 >> 12 & 3;
             self.found(format!("RRB, condition code {old} to {new}"));
             let stored = answer.references.last().expect("the store comes last");
             self.found(format!("RRB, {}", valid(answer)));
-            self.found(format!("RRB, {}, {}", format(call), valid(answer)));
+            self.found(format!("RRB, {}, {}", dat_format(call), valid(answer)));
             let [backup, _, key_1, key_2] = [0, 1, 2, 3].map(|place| byte(call, stored.bytes[place]));
             self.found(format!("RRB, virtual bits {:02b} and {:02b}", key_1 >> 1 & 3, key_2 >> 1 & 3));
             self.found(format!("RRB, backup bits {:04b}", backup & 15));

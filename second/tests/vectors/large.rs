@@ -23,6 +23,9 @@ fn going_round(call: &ReadCall, answer: &Answer) -> Vec<&'static str> {
     for entry in &answer.references {
         if entry.bytes.windows(2).any(|two| two == [0xFF_FFFF, 0]) {
             items.push(match (entry.kind, entry.bytes.len()) {
+                (ReferenceKind::VirtualRegister, _) if call.request.first_halfword >> 8 == 0xB1 => {
+                    "virtual register of LRA"
+                }
                 (ReferenceKind::VirtualRegister, _) => "virtual register",
                 (ReferenceKind::ControlField, 2) => "virtual PSW",
                 (ReferenceKind::ControlField, 4) => match call.request.first_halfword >> 8 {
@@ -73,7 +76,14 @@ fn sizes_and_items_that_go_round() {
     assert!(of_size(4_194_305..=16_777_215) >= 1);
     assert!(completed >= 20, "{completed}");
     assert!(recorded >= 3, "{recorded}");
-    for item in ["MICBLOK", "virtual register", "virtual PSW", "operand", "protected operand"] {
+    for item in [
+        "MICBLOK",
+        "virtual register",
+        "virtual register of LRA",
+        "virtual PSW",
+        "operand",
+        "protected operand",
+    ] {
         assert!(items.contains(item), "{item}");
     }
     for mnemonic in ["SSK", "ISK", "RRB"] {

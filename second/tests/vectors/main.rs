@@ -4,6 +4,8 @@ mod expanded;
 mod key_calls;
 mod large;
 mod low_addresses;
+mod lra_calls;
+mod lra_reached;
 mod pairs_in_file;
 mod reached;
 mod reader;
@@ -14,9 +16,10 @@ use std::sync::OnceLock;
 use expanded::ExpandedTally;
 use key_calls::KeyTally;
 use low_addresses::LowAddressTally;
+use lra_calls::LraTally;
 use reader::{read, Crc, ReadCall};
 use recording::RecordingTally;
-use second::report::{micrseg, Tally};
+use second::report::{TableWords, Tally};
 use second::vectors::{SetOptions, Shares, VectorSet};
 use second::Answer;
 
@@ -34,6 +37,7 @@ struct ReadSet {
     low_addresses: LowAddressTally,
     expanded: ExpandedTally,
     key_calls: KeyTally,
+    lra_calls: LraTally,
     storage_sizes: Vec<usize>,
     most_keys: usize,
     /// Calls on each storage, in the order of the file.
@@ -48,6 +52,7 @@ fn read_set(set: &VectorSet) -> ReadSet {
         low_addresses: LowAddressTally::default(),
         expanded: ExpandedTally::default(),
         key_calls: KeyTally::default(),
+        lra_calls: LraTally::default(),
         storage_sizes: Vec::new(),
         most_keys: 0,
         calls_on_storage: Vec::new(),
@@ -58,11 +63,12 @@ fn read_set(set: &VectorSet) -> ReadSet {
 
 impl ReadSet {
     fn add(&mut self, call: &ReadCall, answer: &Answer) {
-        self.tally.add(&call.request, micrseg(call.storage, &call.request), answer);
+        self.tally.add(&call.request, TableWords::of(call.storage, &call.request), answer);
         self.recording.add(call, answer);
         self.low_addresses.add(call, answer);
         self.expanded.add(call, answer);
         self.key_calls.add(call, answer);
+        self.lra_calls.add(call, answer);
         self.storage_sizes.push(call.storage.len());
         self.most_keys = self.most_keys.max(call.keys.len());
         self.calls_on_storage.resize(call.storage_number, 0);
@@ -97,17 +103,19 @@ fn the_stored_set_read_back_gives_what_must_be_printed() {
 
 #[test]
 fn other_seeds_read_back_give_what_must_be_printed() {
-    for seed in [2, 77] {
-        let set = VectorSet::new(SetOptions { seed, calls: 2_000, large: false });
+    // The fixed calls leave room for all other kinds: the least of each, in a small set and in the smallest.
+    for (seed, calls, least) in
+        [(2, 2_500, [100, 600, 300]), (77, 2_500, [100, 600, 300]), (3, 2_000, [60, 350, 200])]
+    {
+        let set = VectorSet::new(SetOptions { seed, calls, large: false });
         let read = read_set(&set);
         assert!(read.printed == set.stdout());
-        assert_eq!(read.tally.calls, 2_000);
-        // The fixed calls leave room for all other kinds.
+        assert_eq!(read.tally.calls, calls as u64);
         let Shares { figures, single, in_lists, in_pairs } = set.shares;
         let fixed: usize =
             second::fixed::all().iter().flat_map(|(_, lists)| lists).map(|list| list.calls.len()).sum();
-        assert_eq!(figures + single + in_lists + in_pairs, 2_000);
-        assert!(figures + single > fixed + 100 && in_lists > 600 && in_pairs > 300);
+        assert_eq!(figures + single + in_lists + in_pairs, calls);
+        assert!(figures + single > fixed + least[0] && in_lists > least[1] && in_pairs > least[2]);
     }
 }
 
@@ -118,7 +126,8 @@ fn shares_of_the_stored_set() {
     assert!((2_600..=2_800).contains(&single), "{single}");
     assert!((4_400..=4_600).contains(&in_lists), "{in_lists}");
     assert!((2_400..=2_600).contains(&in_pairs), "{in_pairs}");
-    assert_eq!(figures, second::fixed::figures().len() + second::fixed::key_figures().len());
+    let of_figures = [second::fixed::figures(), second::fixed::key_figures(), second::fixed::lra_figure()];
+    assert_eq!(figures, of_figures.iter().map(Vec::len).sum::<usize>());
     // Single calls have a storage each, so do lists; no list is longer than 15 and few are short.
     let on_storage = &stored_set_read().calls_on_storage;
     assert_eq!(on_storage.iter().sum::<usize>(), 10_000);
@@ -162,14 +171,19 @@ fn form_of_the_stored_set() {
     let expected = [
         "# Figures 13 to 18",
         "# Figures 6, 7, 10 and 11",
+        "# Figure 9",
         "# Every bit of the system mask",
         "# Bad calls: every combination",
         "# Low-address protection",
         "# Expanded assist switched on",
         "# Steps of ISK and RRB",
-        "# Second halfword of RRB",
+        "# Second halfword of RRB and LRA",
         "# ISK and RRB in the page's own block",
-        "# First halfwords beside ISK and RRB",
+        "# First halfwords beside ISK, RRB and LRA",
+        "# Condition codes of LRA in every format",
+        "# Bits of LRA's registers and entries",
+        "# Steps of LRA",
+        "# Addresses of LRA",
         "# Lists for the impostors",
         "# Single calls",
         "# Lists of calls on one storage",

@@ -11,7 +11,7 @@ use crate::{stored_set_read, stored_set_tally};
 const SEED: u64 = 20_260_401;
 const CALLS: u64 = 28_000;
 
-const ALL: [&str; 7] = ["SSM", "STCTL", "STNSM", "STOSM", "SSK", "ISK", "RRB"];
+const ALL: [&str; 8] = ["SSM", "STCTL", "STNSM", "STOSM", "SSK", "ISK", "RRB", "LRA"];
 const STORE_THEN: [&str; 2] = ["STNSM", "STOSM"];
 
 /// Ending 0, 1 with each code, 2, 3 with each step or place, 9 to 13.
@@ -39,6 +39,9 @@ fn outcomes_by_hand() -> BTreeSet<(Outcome, &'static str)> {
     row("ISK", &[(1, 2), (3, 1), (3, 2), (3, 3), (3, 4), (3, 5), (3, 6), (3, 7), (3, 8)]);
     row("RRB", &codes);
     row("RRB", &[(3, 1), (3, 2), (3, 3), (3, 4), (3, 5), (3, 6)]);
+    // MICRSEG and MICCREG are one doubleword on its boundary, so that place 2, the second, is in storage if 1 is.
+    row("LRA", &codes);
+    row("LRA", &[(3, 1), (3, 3), (3, 4), (3, 5), (3, 6), (3, 7), (3, 8)]);
     table
 }
 
@@ -72,6 +75,7 @@ fn points_by_hand() -> BTreeSet<Point> {
     table.extend([3, 4, 6, 10].map(|step| ("SSK", (1, 2), step, 0)));
     table.insert(("SSK", (0, 0), 12, 0));
     table.extend(key_points_by_hand());
+    table.extend(lra_points_by_hand());
     table.extend(accesses_by_hand());
     table
 }
@@ -91,6 +95,17 @@ fn key_points_by_hand() -> BTreeSet<Point> {
     table
 }
 
+/// LRA: the places with their steps; refusals of the two walks and of the virtual entries; completion with condition
+/// code 3 (steps 6 and 15), 1, 2 and 0.
+fn lra_points_by_hand() -> BTreeSet<Point> {
+    let mut table: BTreeSet<Point> = BTreeSet::new();
+    let places = [(1, 2), (3, 3), (4, 3), (5, 8), (6, 10), (7, 17), (8, 19)];
+    table.extend(places.map(|(place, step)| ("LRA", (3, place), step, 0)));
+    table.extend([4, 7, 9, 11, 12, 14, 16, 18, 20, 21, 23].map(|step| ("LRA", (1, 2), step, 0)));
+    table.extend([6, 13, 15, 22, 24].map(|step| ("LRA", (0, 0), step, 0)));
+    table
+}
+
 /// Those of logical accesses. At the operand walk step 1 cannot fail: the second halfword has passed it.
 fn accesses_by_hand() -> BTreeSet<Point> {
     let mut table: BTreeSet<Point> = BTreeSet::new();
@@ -98,6 +113,7 @@ fn accesses_by_hand() -> BTreeSet<Point> {
         table.insert(("SSM", (1, code), 5, walk_step));
         table.insert(("STCTL", (1, code), 3, walk_step));
         table.insert(("RRB", (1, code), 4, walk_step));
+        table.insert(("LRA", (1, code), 5, walk_step));
         for mnemonic in STORE_THEN {
             table.insert((mnemonic, (1, 2), 5, walk_step));
         }
@@ -127,15 +143,18 @@ fn check_everything_is_reached(tally: &Tally) {
 }
 
 fn check_every_format_completes(tally: &Tally) {
-    for mnemonic in ["SSM", "STCTL", "STNSM", "STOSM", "RRB"] {
+    for mnemonic in ["SSM", "STCTL", "STNSM", "STOSM", "RRB", "LRA"] {
         for state in ["DAT off", "DAT on, 2K, 64K", "DAT on, 2K, 1M", "DAT on, 4K, 64K", "DAT on, 4K, 1M"] {
             assert!(tally.translation[&(mnemonic, state)].1 > 20, "{mnemonic} {state}");
         }
     }
-    for mnemonic in ["SSK", "ISK", "RRB"] {
+    for mnemonic in ["SSK", "ISK", "RRB", "LRA"] {
         for state in ["MICRSEG, 4K, 64K", "MICRSEG, 4K, 1M"] {
             assert!(tally.translation[&(mnemonic, state)].1 > 20, "{mnemonic} {state}");
         }
+    }
+    for state in ["MICRSEG, 2K, 64K", "MICRSEG, 2K, 1M"] {
+        assert!(tally.translation[&("LRA", state)].1 > 20, "LRA {state}");
     }
 }
 

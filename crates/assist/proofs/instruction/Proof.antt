@@ -148,17 +148,39 @@ returns-5 c =
     (eq-eqb _ _ (sym (code (test .before .before .before) .operation .ensures) ∙ test .if5 .taken)))
     (call .insert-storage-key .ensures)
 
--- RRB
-returns-6 : tie.Need-returns-6
+abbrev not-isk : tie.Else5 → Reached entry stage
 unfolding instruction not-ssm not-stctl not-mask not-ssk
+not-isk c =
+    let here = not-ssk (c .before) in
+    reached (here .start)
+    (rejected _ _ _ (here .runs)
+    (ne-eqb _ _ (λ e. c .if5 .left (code (c .before .before .before) .operation .ensures ∙ e))))
+
+-- LRA, which stores nothing
+returns-6 : tie.Need-returns-6
+unfolding instruction not-ssm not-stctl not-mask not-ssk not-isk
 returns-6 c =
+    let call = c .before .before in
+    let test = call .before .before .before in
+    let here = not-isk (test .before) in
+    let a = here .start .args in
+    continues (call .load-real-address .result) (a .storage .now)
+    (call .load-real-address .last .1 .0)
+    (chosen _ _ _ (here .runs)
+    (eq-eqb _ _ (sym (code (test .before .before .before .before) .operation .ensures) ∙ test .if6 .taken)))
+    (call .load-real-address .ensures)
+
+-- RRB
+returns-7 : tie.Need-returns-7
+unfolding instruction not-ssm not-stctl not-mask not-ssk not-isk
+returns-7 c =
     let call = c .before .before .before .before in
     let test = call .before .before .before in
-    let here = not-ssk (test .before) in
+    let here = not-isk (test .before) in
     continues (call .reset-reference-bit .result) (call .reset-reference-bit .last .0)
     (call .reset-reference-bit .last .1 .0)
     (rejected _ _ _ (here .runs)
-    (ne-eqb _ _ (λ e. test .if5 .left (code (test .before .before .before) .operation .ensures ∙ e))))
+    (ne-eqb _ _ (λ e. test .if6 .left (code (test .before .before .before .before) .operation .ensures ∙ e))))
     (call .reset-reference-bit .ensures)
 
 pub instruction-spec : {M : Type 1} → statement M
@@ -191,4 +213,8 @@ instruction-spec =
     (λ c κs. search needs)
     (λ c. search needs)
     (λ c. search needs)
-    returns-6)
+    returns-6
+    (λ c κs. search needs)
+    (λ c. search needs)
+    (λ c. search needs)
+    returns-7)

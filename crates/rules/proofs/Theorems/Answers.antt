@@ -20,6 +20,7 @@ use Rattle.rules.specs.Theorems.Answers.{
   Answered,
   EveryCallAnswered,
 }
+use Rattle.rules.specs.Theorems.Count.{longestList}
 use Rattle.rules.proofs.Recording.{notedAll-storage, notedAll-length}
 use Rattle.rules.proofs.Reading.{Reads, run-reads, read-same, read-bit}
 use Rattle.rules.proofs.Within.{Came}
@@ -35,7 +36,8 @@ length-by-code c h =
     same .length (same .assisted ∙ completed-assisted (operation c) (h .inTable))
 
 concluded : (m : Machine) (c : Call) (rs : List Reference) (o : Outcome Completion)
-    → Came (Stops (operation c)) (Completes (operation c) c) 85 (length rs) o → All Reads rs
+    → Came (Stops (operation c)) (Completes (operation c) c) (longestList (operation c)) (length rs) o
+    → All Reads rs
     → Answered m c (conclude m c rs o)
 concluded m c rs (ended e) h r = record {
   possible = h .0 .possible;

@@ -2,6 +2,7 @@
 use mathlib.Core.Path.{refl}
 use Rattle.rules.specs.Theorems.Edges.{EdgesHold, RecordingEdgesHold, LowAddressEdgesHold}
 use Rattle.rules.specs.Theorems.KeyEdges.{KeyEdgesHold}
+use Rattle.rules.specs.Theorems.LoadEdges.{LoadEdgesHold}
 use Rattle.rules.proofs.Computing.{computing}
 
 pub edges-hold : EdgesHold
@@ -19,3 +20,7 @@ low-address-edges-hold = refl
 pub key-edges-hold : KeyEdgesHold
 unfolding computing
 key-edges-hold = refl
+
+pub load-edges-hold : LoadEdgesHold
+unfolding computing
+load-edges-hold = refl

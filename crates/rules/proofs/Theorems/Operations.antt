@@ -12,14 +12,14 @@ use Rattle.rules.specs.Call.{operationByte}
 use Rattle.rules.specs.Theorems.Answers.{instructionLength}
 use Rattle.rules.specs.Theorems.Operations.{assistedCode, TableAsByCode}
 
--- what has P at each of the seven has it at an assisted operation code
-pub each : (P : ℕ → Type 0) → P 0x08 → P 0x09 → P 0x80 → P 0xac → P 0xad → P 0xb213 → P 0xb6 → (op : ℕ)
+-- what has P at each of the eight has it at an assisted operation code
+pub each : (P : ℕ → Type 0) → P 0x08 → P 0x09 → P 0x80 → P 0xac → P 0xad → P 0xb1 → P 0xb213 → P 0xb6 → (op : ℕ)
     → assistedCode op ≡ true → P op
-each P a b c d e f g op h =
+each P a b c d e f g i op h =
     let at : (code : ℕ) → P code → eqb op code ≡ true → P op = λ code p t. subst P (sym (eqb-true op code t)) p in
     let or : (b : Bool) (code : ℕ) → P code → (b ≡ true → P op) → (b || eqb op code) ≡ true → P op =
     λ b code p first t. ⊎-elim first (at code p) (either-true b _ t) in
-    or _ 0xb6 g (or _ 0xb213 f (or _ 0xad e (or _ 0xac d (or _ 0x80 c (or _ 0x09 b (at 0x08 a)))))) h
+    or _ 0xb6 i (or _ 0xb213 g (or _ 0xb1 f (or _ 0xad e (or _ 0xac d (or _ 0x80 c (or _ 0x09 b (at 0x08 a))))))) h
 
 -- a first halfword, its first byte, and whether that is B2
 module _ (first byte : ℕ) (e : byte ≡ first / 256 % 256) where
@@ -35,6 +35,7 @@ module _ (first byte : ℕ) (e : byte ≡ first / 256 % 256) where
         no 0x80 (omega arith),
         no 0xac (omega arith),
         no 0xad (omega arith),
+        no 0xb1 (omega arith),
         no 0xb6 (omega arith),
         or-false,
       ))
@@ -47,10 +48,11 @@ module _ (first byte : ℕ) (e : byte ≡ first / 256 % 256) where
   length true t h =
       let b2 = eqb-true byte 0xb2 t in
       ap lengthOf b2 ∙ sym (each (λ op. 255 < op → instructionLength op ≡ 4) (λ l. absurd (omega arith))
-      (λ l. absurd (omega arith)) (λ l. refl) (λ l. refl) (λ l. refl) (λ l. refl) (λ l. refl) first h (omega arith))
+      (λ l. absurd (omega arith)) (λ l. refl) (λ l. refl) (λ l. refl) (λ l. refl) (λ l. refl) (λ l. refl) first h
+      (omega arith))
   length false t h =
       each (λ op. op < 256 → lengthOf op ≡ instructionLength op) (λ l. refl) (λ l. refl) (λ l. refl) (λ l. refl)
-      (λ l. refl) (λ l. absurd (omega arith)) (λ l. refl) byte h (omega arith)
+      (λ l. refl) (λ l. refl) (λ l. absurd (omega arith)) (λ l. refl) byte h (omega arith)
 
 pub table-as-by-code : TableAsByCode
 table-as-by-code c =

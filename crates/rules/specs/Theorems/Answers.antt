@@ -2,14 +2,14 @@
 -- and with a code, step or place that its instruction can have; only codes 16 and 17 carry an address, of 24 bits.
 -- Every ending but 0 leaves storage and record as they were, and the keys but for reference bits that were recorded: a
 -- bit that ends as one was one or belongs to a block that an entry of the list touched, exactly. Completion moves the
--- instruction address on, and changes nothing else in the record but ISK's result and RRB's condition code.
+-- instruction address on, and changes nothing else in the record but ISK's result, RRB's condition code and LRA's both.
 use Prim.Native.Nat.{ℕ, _<_, _^_}
 use mathlib.Core.Path.{_≡_}
 use mathlib.Core.Bool.{Bool, true, false, cond, _&&_, _||_}
 use mathlib.Core.List.{List, [], _∷_}
 use lib.Dec.{eqb}
 use Rattle.rules.specs.Machine.{Machine}
-use Rattle.rules.specs.Guest.{Guest, advance, withByte, withCode}
+use Rattle.rules.specs.Guest.{Guest, advance, withByte, withAddress, withCode}
 use Rattle.rules.specs.Endings.{Ending, Numbers, numbers}
 use Rattle.rules.specs.Call.{Call, operation, r1}
 use Rattle.rules.specs.Attempt.{Result, attempt}
@@ -39,7 +39,8 @@ decided op =
     (cond (eqb op 0x08) (alone 9 ∷ alone 0 ∷ line 1 (2 ∷ []) ∷ line 3 (2 ∷ 5 ∷ 7 ∷ 8 ∷ 9 ∷ 11 ∷ []) ∷ [])
     (cond (eqb op 0x09) (alone 9 ∷ alone 0 ∷ line 1 (2 ∷ []) ∷ line 3 (1 ∷ 2 ∷ 3 ∷ 4 ∷ 5 ∷ 6 ∷ 7 ∷ 8 ∷ []) ∷ [])
     (cond (eqb op 0xb213) (alone 9 ∷ alone 0 ∷ interruptions ∷ line 3 (1 ∷ 2 ∷ 3 ∷ 4 ∷ 5 ∷ 6 ∷ []) ∷ [])
-    (alone 13 ∷ []))))))
+    (cond (eqb op 0xb1) (alone 9 ∷ alone 0 ∷ interruptions ∷ line 3 (1 ∷ 2 ∷ 3 ∷ 4 ∷ 5 ∷ 6 ∷ 7 ∷ 8 ∷ []) ∷ [])
+    (alone 13 ∷ [])))))))
 
 -- and what any call can end with before that
 abbrev pub table : (operation : ℕ) → List Line
@@ -67,10 +68,13 @@ pub record Possible (operation : ℕ) (e : Ending) : Type 0 where
 abbrev pub instructionLength : (operation : ℕ) → ℕ
 instructionLength op = cond (eqb op 0x08 || eqb op 0x09) 2 4
 
--- a record without what completion sets in it besides: ISK bits 24-31 of register R1, RRB the condition code, the other
--- five nothing
+-- a record without what completion sets in it besides: ISK bits 24-31 of register R1, RRB the condition code, LRA the
+-- code and register R1, the other five nothing
 abbrev pub withoutResult : (operation : ℕ) → Call → Guest → Guest
-withoutResult op c g = cond (eqb op 0x09) (withByte g (r1 c) 0) (cond (eqb op 0xb213) (withCode g 0) g)
+withoutResult op c g =
+    cond (eqb op 0x09) (withByte g (r1 c) 0)
+    (cond (eqb op 0xb213) (withCode g 0)
+    (cond (eqb op 0xb1) (withAddress (withCode g 0) (r1 c) 0) g))
 
 -- what an ending but 0 leaves
 pub record Untouched (m : Machine) (c : Call) (r : Result) : Type 0 where

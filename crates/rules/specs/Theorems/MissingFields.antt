@@ -1,5 +1,5 @@
 -- Ending 3 at each control field of each instruction, and at the page's key block: the step that it carries, or with
--- ISK and RRB the place among what was tried; the count before it, and the keys.
+-- ISK, RRB and LRA the place among what was tried; the count before it, and the keys.
 -- One table, under one statement. Storage ends at 1000.
 use Prim.Native.Nat.{ℕ}
 use mathlib.Core.Bool.{true}
@@ -21,6 +21,10 @@ fieldAt first step count own =
 abbrev fieldAfterBoth : (micblok first step count : ℕ) → List Write → Row
 fieldAfterBoth micblok first step count own =
     endsWith (machineWith own) (callOf (guestWith 0x1c 0 micblok) first true) 3 step count (0x04 ∷ 0x04 ∷ [])
+
+-- for LRA: virtual 4K pages and 64K segments, a virtual segment table at 100, and a page table at a virtual address
+abbrev virtualTables : (pageTable : ℕ) → List Write
+virtualTables pageTable = store 0x60 4 0x00800000 ∷ store 0x64 4 0x100 ∷ store 0x100 4 pageTable ∷ []
 
 abbrev pub missingFields : List Row
 missingFields =
@@ -67,6 +71,17 @@ missingFields =
     ∷ fieldAt 0xb213 4 5 (store 0xcc 4 0x0ffd ∷ [])
     ∷ fieldAfterBoth 0x80000008 0xb213 5 6 (store 0xc0 4 0x1000 ∷ store 0xffc 4 0xe0 ∷ [])
     ∷ fieldAt 0xb213 6 7 (store 0xd0 2 0x0ff0 ∷ [])
+    -- LRA, in places: MICRSEG; virtual control registers 0 and 1; after the second halfword, the real segment entry and
+    -- page entry of the virtual segment entry, and those of the virtual page entry. (MICCREG, place 2, is in storage
+    -- wherever MICRSEG is: a MICBLOK is on a doubleword.)
+    ∷ noMicblok 0xb110 1
+    ∷ fieldAt 0xb110 3 2 (store 0x0c 4 0x1000 ∷ [])
+    ∷ fieldAfterBoth 0x80000008 0xb110 4 3 (store 0x0c 4 0x0ffc ∷ [])
+    ∷ fieldAt 0xb110 5 6 (store 0x08 4 0x1000 ∷ virtualTables 0)
+    ∷ fieldAt 0xb110 6 7 (store 0xc0 4 0x1000 ∷ virtualTables 0)
+    ∷ fieldAfterBoth 0x80000008 0xb110 7 9
+    (store 0x08 4 0x01000fc0 ∷ store 0xfc0 4 0xd0 ∷ virtualTables 0x100000)
+    ∷ fieldAt 0xb110 8 10 (store 0xc4 4 0x1000 ∷ virtualTables 0x010000)
     ∷ []
 
 abbrev pub StepsCarried : Type 0

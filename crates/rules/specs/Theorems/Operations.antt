@@ -10,10 +10,11 @@ use Rattle.rules.specs.Call.{Call, operationByte, operation}
 use Rattle.rules.specs.Attempt.{isAssisted}
 use Rattle.rules.specs.Theorems.Answers.{instructionLength}
 
--- one of the seven
+-- one of the eight
 abbrev pub assistedCode : (operation : ℕ) → Bool
 assistedCode op =
-    eqb op 0x08 || eqb op 0x09 || eqb op 0x80 || eqb op 0xac || eqb op 0xad || eqb op 0xb213 || eqb op 0xb6
+    eqb op 0x08 || eqb op 0x09 || eqb op 0x80 || eqb op 0xac || eqb op 0xad || eqb op 0xb1 || eqb op 0xb213
+    || eqb op 0xb6
 
 pub record AsByCode (c : Call) : Type 0 where
   pub assisted : isAssisted c ≡ assistedCode (operation c)

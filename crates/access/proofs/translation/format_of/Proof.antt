@@ -8,25 +8,25 @@ use Rattle.access.proofs.translation.format_of.Tie as tie
 
 returns : tie.Need-returns
 unfolding seen formatOf stopIf _>>=_
-returns c = λ m. simp (c .format .ensures, c .before .if1 .taken)
+returns c = λ unknown m. simp (c .format .ensures, c .before .if1 .taken)
 
 returns-2 : tie.Need-returns-2
 unfolding seen formatOf stopIf _>>=_
-returns-2 c = λ m. simp (c .format2 .ensures, c .before .if2 .taken)
+returns-2 c = λ unknown m. simp (c .format2 .ensures, c .before .if2 .taken)
 
 returns-3 : tie.Need-returns-3
 unfolding seen formatOf stopIf _>>=_
-returns-3 c = λ m. simp (c .format3 .ensures, c .before .if3 .taken)
+returns-3 c = λ unknown m. simp (c .format3 .ensures, c .before .if3 .taken)
 
 returns-4 : tie.Need-returns-4
 unfolding seen formatOf stopIf _>>=_
-returns-4 c = λ m. simp (c .format4 .ensures, c .before .if4 .taken)
+returns-4 c = λ unknown m. simp (c .format4 .ensures, c .before .if4 .taken)
 
 returns-5 : tie.Need-returns-5
 unfolding seen formatOf stopIf _>>=_
 returns-5 c =
     let at-if2 = c .before .before in
-    λ m. simp (
+    λ unknown m. simp (
       ne-eqb _ _ (at-if2 .before .if1 .left),
       ne-eqb _ _ (at-if2 .if2 .left),
       ne-eqb _ _ (c .before .if3 .left),

@@ -1,9 +1,9 @@
-use mathlib.Core.Path.{ap, _∙_}
+use mathlib.Core.Path.{_∙_}
 use Rattle.rules.specs.declared.tables.FoundPage.{FoundPage}
 use Rattle.rules.specs.Machine.{Machine}
 use Rattle.rules.specs.Steps.{Steps}
-use Rattle.rules.specs.SwapTables.{segmentEnding, findPage}
-use Rattle.storage.specs.Answers.{machine, told}
+use Rattle.rules.specs.SwapTables.{findPage}
+use Rattle.storage.specs.Answers.{machine}
 use Rattle.storage.proofs.Laws.{begin, fresh, settles}
 use Rattle.storage.proofs.Stages.{Reached, Asked, asks, asks-after, given, reached-keys}
 use Rattle.storage_key.proofs.Way.{stopped-at}
@@ -18,26 +18,21 @@ abbrev stage : tie.Start → Steps FoundPage
 stage c = findPage (c .args .numbers) (c .args .rseg) (c .args .at)
 
 -- where the format was taken
-abbrev format : tie.After-refused → tie.After-format-in
-format c = c .before .before .before .before .before
+abbrev format : tie.After-segment-of → tie.After-format-in
+format c = c .before .before
 
 -- steps 4 to 6
-abbrev segment : tie.After-refused → Asked entry stage
+abbrev segment : tie.After-segment-of → Asked entry stage
 unfolding findPage
 segment c =
-    let walk = c .before .before .before in
     let start = format c .before .before .before in
-    let s = start .args .storage .now in
-    let ks = walk .segment-entry .last .1 .0 in
-    asks start _ _ (begin (entry start) (stage start)) (c .refused .result) s ks
-    (fresh _ _
-    (ap (λ r. told r s ks) (c .refused .ensures)
-    ∙ simp (format c .format-in .ensures) at (walk .segment-entry .ensures (segmentEnding (start .args .numbers)))))
+    asks start _ _ (begin (entry start) (stage start)) (c .segment-of .result) (start .args .storage .now)
+    (c .segment-of .last .1 .0) (fresh _ _ (simp (format c .format-in .ensures) at (c .segment-of .ensures)))
 
 returns : tie.Need-returns
 unfolding findPage segment
 returns c =
-    stopped-at (c .stopped .result) (segment (c .before .before .before)) (c .stopped .ensures)
+    stopped-at (c .stopped .result) (segment (c .before .before .before .before .before)) (c .stopped .ensures)
     (c .before .enum-told .given .1)
 
 -- step 7: the address of the swap word
@@ -46,10 +41,11 @@ unfolding findPage segment
 place c =
     let call = c .before .before .before in
     let at = call .before .before .before in
-    let here = given (segment (at .before .before)) (at .entry .given .1) in
+    let asked = at .before .before .before .before in
+    let here = given (segment asked) (at .entry .given .1) in
     asks-after (here .start) _ _ (here .runs) (call .swap-word-at .result) (c .after .result)
     (here .start .args .storage .now) (call .swap-word-at .last .1 .0) (c .after .ensures)
-    (simp (format (at .before .before) .format-in .ensures) at (call .swap-word-at .ensures))
+    (simp (format asked .format-in .ensures) at (call .swap-word-at .ensures))
 
 returns-2 : tie.Need-returns-2
 unfolding findPage segment place
@@ -83,7 +79,7 @@ abbrev size : tie.After-page-of → tie.After-format-in
 size c =
     let after-word = c .before .before .before .before .before in
     let after-place = after-word .before .before .before .before .before .before .before .before in
-    format (after-place .before .before .before .before .before .before .before .before)
+    format (after-place .before .before .before .before .before .before .before .before .before .before)
 
 -- steps 9 and 10: the page entry
 abbrev entered : tie.After-after3 → Asked entry stage
@@ -126,7 +122,6 @@ pub find-page-spec : {M : Type 1} → statement M
 find-page-spec =
     tie.close
     (tie.spec
-    (λ c κs. search needs)
     (λ c κs. search needs)
     (λ c κs. search needs)
     (λ c. search needs)

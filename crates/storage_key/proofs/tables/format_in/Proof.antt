@@ -1,12 +1,9 @@
-use borrow.Author.Tests.{eq-eqb, ne-eqb}
+use borrow.Author.Needs.{needs}
 use Rattle.storage_key.proofs.tables.format_in.Statement.{statement}
 use Rattle.storage_key.proofs.tables.format_in.Tie as tie
 
 returns : tie.Need-returns
-returns c = simp (eq-eqb _ _ (c .if1 .taken))
-
-returns-2 : tie.Need-returns-2
-returns-2 c = simp (ne-eqb _ _ (c .if1 .left))
+returns c = simp (c .segment-size-in .ensures)
 
 pub format-in-spec : {M : Type 1} → statement M
-format-in-spec = tie.close (tie.spec returns returns-2)
+format-in-spec = tie.close (tie.spec (λ c κs. search needs) returns)

@@ -9,6 +9,16 @@ returns-2 c =
 returns-3 : tie.Need-returns-3
 returns-3 c = simp (c .before .before .change2 .given .1, c .with-code .ensures)
 
+returns-4 : tie.Need-returns-4
+returns-4 c =
+    let code = c .before .before in
+    simp (
+      code .before .before .change3 .given .1,
+      c .with-address .ensures,
+      c .before .r12 .ensures,
+      code .with-code2 .ensures,
+    )
+
 pub changed-spec : {M : Type 1} → statement M
 changed-spec =
     tie.close
@@ -20,5 +30,10 @@ changed-spec =
     (λ c. search needs)
     (λ c κs. search needs)
     (λ c. search needs)
+    (λ c κs. search needs)
+    (λ c κs. search needs)
+    (λ c κs. search needs)
+    (λ c. search needs)
     returns-2
-    returns-3)
+    returns-3
+    returns-4)

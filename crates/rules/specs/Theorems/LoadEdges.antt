@@ -1,7 +1,7 @@
 -- Edges of LOAD REAL ADDRESS (document 02, R-9), which are ours: one table, under one statement. Numbers are hex; DAT
 -- is off. The control program's fields and the instruction, at 1C, are in block 0. The guest's segment table is at
--- virtual address 900 and its page table at 980; with real 4K pages these are in frame 0, at 900, and with real 2K
--- pages in another frame, at 1900.
+-- virtual address 900 and its page table at 980; page 0 of the real tables is in frame 0, with 4K pages and with 2K
+-- pages, and page 1 of 2K pages is there too, so that with 4K pages the tables are at 900, and with 2K pages at 100.
 use Prim.Native.Nat.{ℕ, _+_, _-_, _*_, _^_}
 use mathlib.Core.Bool.{false}
 use mathlib.Core.List.{List, [], _∷_, _++_}
@@ -15,7 +15,7 @@ use Rattle.rules.specs.Theorems.Samples.{
   Hold,
   completesWith,
   endsWith,
-  machineOf,
+  machineWith,
   guestWith,
   callOf,
   movedTo,
@@ -23,7 +23,11 @@ use Rattle.rules.specs.Theorems.Samples.{
 
 -- ---- the machine and the call
 
--- the size of real pages: what MICRSEG has, where the guest's tables are, and the keys of blocks 0 to 3 once entries of
+-- nothing but block 0 was fetched from
+abbrev blockZero : List ℕ
+blockZero = 0x04 ∷ 0x00 ∷ []
+
+-- the size of real pages: what MICRSEG has, where the guest's tables are, and the keys of both blocks once entries of
 -- them were fetched
 pub record RealPages : Type 0 where
   pub rseg : ℕ
@@ -31,23 +35,16 @@ pub record RealPages : Type 0 where
   pub keys : List ℕ
 
 abbrev pages4K : RealPages
-pages4K = record { rseg = 0xc0; tables = 0x900; keys = 0x04 ∷ 0x04 ∷ 0x00 ∷ 0x00 ∷ [] }
+pages4K = record { rseg = 0xc0; tables = 0x900; keys = 0x04 ∷ 0x04 ∷ [] }
 
 abbrev pages2K : RealPages
-pages2K = record { rseg = 0xc2; tables = 0x1900; keys = 0x04 ∷ 0x00 ∷ 0x00 ∷ 0x04 ∷ [] }
-
-abbrev none : List ℕ
-none = 0x00 ∷ 0x00 ∷ 0x00 ∷ 0x00 ∷ []
-
--- nothing but block 0 was fetched from
-abbrev blockZero : List ℕ
-blockZero = 0x04 ∷ 0x00 ∷ 0x00 ∷ 0x00 ∷ []
+pages2K = record { rseg = 0xc2; tables = 0x100; keys = blockZero }
 
 -- virtual control register 1 designates the guest's segment table, whose length is zero: one to sixteen segments of 64K
 abbrev machine : RealPages → (cr0 : ℕ) → List Write → Machine
 machine p cr0 own =
-    machineOf 8192 none
-    (store 0x08 4 (p .rseg) ∷ store 0xd2 2 0x0018 ∷ store 0x60 4 cr0 ∷ store 0x64 4 0x900 ∷ store 0x1e 2 0x2010 ∷ own)
+    machineWith
+    (store 0x08 4 (p .rseg) ∷ store 0x60 4 cr0 ∷ store 0x64 4 0x900 ∷ store 0x1e 2 0x2010 ∷ own)
 
 -- general registers 1 and 2 as given, and a condition code; register 0, as base or index, counts as zero
 abbrev guest : (r1 r2 code : ℕ) → Guest

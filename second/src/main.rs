@@ -17,7 +17,8 @@ const USAGE: &str = "usage: second edges [--large]
        second trail [--out FILE]
 
 edges    prints one line for each edge of document 01, of ISK and RRB (document 02, R-4), of LRA (R-9), of
-         recording (R-13) and of low-address protection (R-6); --large: those in more than 4,194,304 bytes
+         recording (R-13), of low-address protection (R-6) and at the end of storage (R-10); --large: those
+         in more than 4,194,304 bytes
 report   prints how often random calls reach each ending, code, step and place (seed 1, 20000 calls)
 vectors  writes calls to DIR/stdin and what must be printed for them to DIR/stdout, and prints the
          report over them (seed 1, 10000 calls; --large: in up to 16,779,264 bytes, 200 calls)

@@ -31,8 +31,8 @@ fn every_edge() {
     for edge in &all {
         compare(&edge.image, [&edge.request]);
     }
-    // 259 in at most 4 MiB, 11 in more.
-    assert_eq!(all.len(), 270);
+    // 269 in at most 4 MiB, 11 in more.
+    assert_eq!(all.len(), 280);
 }
 
 #[test]

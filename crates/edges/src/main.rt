@@ -1,6 +1,7 @@
 // Runs every edge of document 01, "Edges to show", but those in 16 MiB, which `vma demo` runs; those of ISK, RRB and
-// LRA, of recording and of low-address protection; and every wrong turn.
+// LRA, of recording, of low-address protection and at the end of storage; and every wrong turn.
 // It prints a line for each; `second edges` writes the lines that must come.
+use crate::end_of_storage::run_end_of_storage;
 use crate::insert_storage_key::run_insert_storage_key;
 use crate::load_real_address::run_load_real_address;
 use crate::low_addresses::run_low_addresses;
@@ -16,6 +17,7 @@ use crate::system_masks::run_system_masks;
 use crate::wrong_turns::run_wrong_turns;
 
 mod edge;
+mod end_of_storage;
 mod image;
 mod insert_storage_key;
 mod load_address_formats;
@@ -44,6 +46,7 @@ fn run_all(storage: &mut Storage, keys: &mut Keys) {
     run_load_real_address(storage, keys);
     run_recording(storage, keys);
     run_low_addresses(storage, keys);
+    run_end_of_storage(storage, keys);
     run_wrong_turns(storage, keys);
 }
 

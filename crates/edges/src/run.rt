@@ -1,5 +1,6 @@
 // An edge is run: its call is made, and its line is printed.
 use crate::edge::Edge;
+use crate::end_of_storage;
 use crate::image::Part;
 use crate::image::fill;
 use crate::insert_storage_key;
@@ -56,6 +57,7 @@ pub(crate) enum Group {
     LoadAddressTests,
     Recording,
     LowAddresses,
+    EndOfStorage,
     WrongTurns,
 }
 
@@ -81,6 +83,7 @@ fn edge_of(group: Group, number: usize) -> Edge {
         Group::LoadAddressTests => load_address_tests::test_edge(number),
         Group::Recording => recording::edge(number),
         Group::LowAddresses => low_addresses::edge(number),
+        Group::EndOfStorage => end_of_storage::edge(number),
         Group::WrongTurns => wrong_turns::edge(number),
     }
 }

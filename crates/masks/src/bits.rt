@@ -1,10 +1,12 @@
 // The first halfword of the virtual PSW, and which bits of its byte 0, the system mask, change.
 ghost use mathlib.Core.Path.{_≡_};
 ghost use mathlib.Core.Bool.{not, _&&_};
-ghost use Prim.Native.Nat.{_<_};
+ghost use Prim.Native.Nat.{_%_, _<_};
+ghost use lib.ListN.{length, set};
 ghost use Rattle.rules.specs.Writes.{perform, store};
 ghost use Rattle.rules.specs.Masks.{maskIn, extendedIn, atAny, allBits, rises};
 ghost use Rattle.storage.specs.Answers.{machine};
+use storage::Access;
 
 pub(crate) fn mask_in(first: u32) -> u32
     ensures { λ r. ⌜ (r ≡ maskIn first) × (r < 256) ⌝ }
@@ -50,12 +52,23 @@ pub(crate) fn any_rises_pending(pending: bool, old: u32, new: u32) -> bool
     any_rises(old, new)
 }
 
-// The new mask as byte 0 of the virtual PSW, and no other byte.
+fn put_byte(storage: &mut [u8], at: u32, value: u32)
+    requires { ⌜ at < length (now storage) ⌝ }
+    ensures { λ _. ⌜ now (storage .exit) ≡ set (now (storage .entry)) at (value % 256) ⌝ }
+{
+    let i = at as usize;
+    storage[i] = (value % 256) as u8;
+}
+
+// The new mask as byte 0 of the virtual PSW, and no other byte. Its first halfword was fetched, and the fetch answered
+// only because it is there; so nothing is tested here (document 02, R-10).
 pub(crate) fn put_mask(storage: &mut [u8], keys: &mut [u8], at: u32, mask: u32)
+    requires { ⌜ at < length (now storage) ⌝ }
     ensures { λ _. ⌜
         machine (now (storage .exit)) (now (keys .exit))
         ≡ perform (machine (now (storage .entry)) (now (keys .entry))) (store at 1 mask)
         ⌝ }
 {
-    storage::store_byte(storage, keys, at, mask);
+    put_byte(storage, at, mask);
+    storage::record_byte(keys, Access::Store, at);
 }

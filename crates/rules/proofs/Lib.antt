@@ -8,6 +8,8 @@ pub mod Bytes
 pub mod All
 pub mod Puts
 pub mod Recording
+pub mod Gives
+pub mod Present
 pub mod Reading
 pub mod Acts
 pub mod Together

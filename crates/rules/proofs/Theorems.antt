@@ -5,4 +5,5 @@ pub mod Edges
 pub mod MissingFields
 pub mod Count
 pub mod Isolation
+pub mod Present
 pub mod WrongPrograms

@@ -10,4 +10,5 @@ pub mod LoadEdges
 pub mod MissingFields
 pub mod Count
 pub mod Isolation
+pub mod Present
 pub mod WrongPrograms

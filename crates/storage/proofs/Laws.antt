@@ -1,7 +1,7 @@
 -- A run, step by step: what the code's answers, and the machine that each call leaves, say of a reading program.
 use Prim.Native.Nat.{ℕ, _+_, _%_, _^_, _<_}
 use native.Mathlib.Omega.{arith}
-use mathlib.Core.Path.{_≡_, refl, sym, ap, _∙_}
+use mathlib.Core.Path.{_≡_, refl, sym, ap, _∙_, subst}
 use mathlib.Core.Bool.{Bool, true, false}
 use mathlib.Core.List.{List}
 use lib.ListN.{length}
@@ -17,6 +17,7 @@ use Rattle.rules.specs.Recording.{notedAll}
 use Rattle.rules.specs.Run.{Outcome, ended, gave, run, View, view}
 use Rattle.rules.proofs.Recording.{notedAll-length}
 use Rattle.rules.proofs.Bind.{following, view-bind, endedAs, run-endingAs}
+use Rattle.rules.proofs.Gives.{Gives, IfGave, run-gives}
 use Rattle.storage.specs.Answers.{
   Stepped,
   Value,
@@ -83,6 +84,13 @@ told-later n (Stopped e c) s ks = refl
 pub waited : (r r′ : Stepped) (n : ℕ) (s ks : List ℕ) (p : Steps ℕ) (m : Machine)
     → r′ ≡ later n r → told r s ks ≡ seen p m → told r′ s ks ≡ more n (seen p m)
 waited r r′ n s ks p m e f = ap (λ x. told x s ks) e ∙ told-later n r s ks ∙ ap (more n) f
+
+-- what p gave has what all that it gives has: so the answer of a fetch says that what was fetched is there
+pub gave-only : {A : Type 0} (Q : A → Type 0) (p : Steps A) (m : Machine) (n : ℕ) {v : A} {c : ℕ} {l : Machine}
+    → went v c l ≡ more n (seen p m) → Gives (length (m .storage)) (length (m .keys)) Q p → Q v
+unfolding seen
+gave-only Q p m n f h =
+    subst (IfGave Q) (sym (ap (λ x. x .outcome) f)) (run-gives Q p m (length (m .keys)) refl h)
 
 -- every ending refused
 abbrev recast : View ℕ → View ℕ

@@ -31,7 +31,20 @@ use Rattle.storage.specs.Answers.{
   finish,
   ending,
 }
-use Rattle.storage.proofs.Laws.{more, Runs, waited, goes, ends, pass, stops, runs-keys, stopped-by, ended-by}
+use Rattle.rules.proofs.Gives.{Gives}
+use Rattle.storage.proofs.Laws.{
+  more,
+  Runs,
+  waited,
+  gave-only,
+  goes,
+  ends,
+  pass,
+  stops,
+  runs-keys,
+  stopped-by,
+  ended-by,
+}
 
 -- The arguments that a stage began with are an S. They say the machine that it came to, and its reading program.
 module _ {S A : Type 0} (entry : S → Machine) (stage : S → Steps A) where
@@ -102,6 +115,12 @@ module _ {S A : Type 0} {entry : S → Machine} {stage : S → Steps A} where
   given a e =
       reached (a .start)
       (goes (a .step) (a .next) (a .runs) (ap (λ x. told x (a .storage) (a .keys)) (sym e) ∙ a .so))
+
+  -- and it has what all that the step gives has
+  pub sure : (Q : ℕ → Type 0) (a : Asked entry stage) {v c : ℕ} → a .answer ≡ Value v c
+      → Gives (length (a .left .storage)) (length (a .left .keys)) Q (a .step) → Q v
+  sure Q a e h =
+      gave-only Q (a .step) (a .left) (a .count) (ap (λ x. told x (a .storage) (a .keys)) (sym e) ∙ a .so) h
 
   -- the ending, and with it that of the stage
   pub ended : (a : Asked entry stage) {e : Ending} {c : ℕ} → a .answer ≡ Stopped e c

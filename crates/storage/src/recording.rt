@@ -9,7 +9,7 @@ ghost use Rattle.storage.specs.Recording.{marking, across};
 
 const BLOCK: u32 = 2048;
 
-pub(crate) enum Access {
+pub enum Access {
     Fetch,
     Store,
 }
@@ -27,7 +27,7 @@ impl Access {
 }
 
 // The key of a byte's block.
-pub(crate) fn record_byte(keys: &mut [u8], access: Access, at: u32)
+pub fn record_byte(keys: &mut [u8], access: Access, at: u32)
     ensures { λ _. ⌜
         now (keys .exit)
         ≡ set (now (keys .entry)) (at / 2048) (marking access (getD (now (keys .entry)) (at / 2048) 0))
@@ -47,7 +47,7 @@ pub(crate) fn record_halfword(keys: &mut [u8], access: Access, at: u32)
 }
 
 // A word wherever its bytes are.
-pub(crate) fn record_word(keys: &mut [u8], access: Access, at: u32)
+pub fn record_word(keys: &mut [u8], access: Access, at: u32)
     ensures { λ _. ⌜ now (keys .exit) ≡ marked (marking access) (now (keys .entry)) (addresses at 4) ⌝ }
 {
     record_halfword(keys, access, at);
@@ -55,7 +55,7 @@ pub(crate) fn record_word(keys: &mut [u8], access: Access, at: u32)
 }
 
 // May a word touch two blocks? If not, it is recorded as its first byte is.
-pub(crate) fn is_across(at: u32) -> bool
+pub fn is_across(at: u32) -> bool
     ensures { λ r. ⌜ r ≡ across at ⌝ }
 {
     (16777215 < at) | (2044 < at % BLOCK)

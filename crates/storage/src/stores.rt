@@ -1,11 +1,12 @@
-// Stores, which are recorded, and the setting of a key, which isn't. A byte that is not in storage, or a key that is
-// not there, changes nothing.
-ghost use Prim.Native.Nat.{ℕ, _%_};
+// Stores to a real address that was tested, and nothing fetched there: the operands of STCTL, STNSM and STOSM. They are
+// open to any storage and keys, so a byte that is not in storage changes nothing. In an attempt there is no such byte
+// (rules, EveryEntryPresent). What was fetched before is stored with no test (put_mask in masks, put_swap_word in
+// storage_key).
+ghost use Prim.Native.Nat.{_%_};
 ghost use mathlib.Core.Path.{_≡_};
-ghost use mathlib.Core.List.{List};
 ghost use lib.ListN.{length, set};
 ghost use Rattle.rules.specs.Machine.{addresses, stored};
-ghost use Rattle.rules.specs.Writes.{perform, store, setKey};
+ghost use Rattle.rules.specs.Writes.{perform, store};
 ghost use Rattle.storage.specs.Answers.{machine};
 ghost use Rattle.storage.specs.Items.{wordBytes};
 use crate::recording::Access;
@@ -85,17 +86,4 @@ pub fn store_word(storage: &mut [u8], keys: &mut [u8], at: u32, value: u32)
     }
     put_word(&mut storage[start..end], value);
     record_byte(keys, Access::Store, at);
-}
-
-pub fn set_key(keys: &mut [u8], block: u32, key: u8)
-    ensures { λ _. ⌜
-        ((s : List ℕ) →
-        machine s (now (keys .exit))
-        ≡ perform (machine s (now (keys .entry))) (setKey block key))
-        ⌝ }
-{
-    let i = block as usize;
-    if i < keys.len() {
-        keys[i] = key;
-    }
 }

@@ -1,16 +1,22 @@
 -- The way to a page beside the reading program: what `Stages` of the storage crate has for a step, here for a page.
 use Prim.Native.Nat.{ℕ}
-use mathlib.Core.Path.{_≡_, refl, sym, ap, _∙_}
+use mathlib.Core.Path.{_≡_, refl, sym, ap, _∙_, subst}
+use mathlib.Core.Bool.{true}
 use mathlib.Core.List.{List}
+use lib.ListN.{length}
 use Rattle.rules.specs.declared.endings.Ending.{Ending}
 use Rattle.storage.specs.declared.answers.Concluded.{Concluded}
 use Rattle.rules.specs.declared.tables.FoundPage.{FoundPage}
-use Rattle.rules.specs.Machine.{Machine}
+use Rattle.rules.specs.declared.tables.FieldNumbers.{FieldNumbers}
+use Rattle.rules.specs.Machine.{Machine, has}
 use Rattle.rules.specs.Steps.{Steps, _>>=_}
 use Rattle.rules.specs.Call.{Completion}
+use Rattle.rules.specs.SwapTables.{findPage}
 use Rattle.storage.specs.declared.steps.Stepped.the-variants as step
 use Rattle.storage.specs.Answers.{seen, finished, finish}
-use Rattle.storage.proofs.Laws.{more, Runs, goes, ends}
+use Rattle.rules.proofs.Gives.{Gives}
+use Rattle.rules.proofs.Present.{SwapThere, findPage-gives}
+use Rattle.storage.proofs.Laws.{more, Runs, gave-only, goes, ends}
 use Rattle.storage.proofs.Stages.{Reached, Asked, reached, ended}
 use Rattle.storage_key.specs.Way.{
   Found,
@@ -73,6 +79,17 @@ module _ {S : Type 0} {entry : S → Machine} {stage : S → Steps Completion} w
   found a e =
       reached (a .start)
       (goes (a .way) (a .next) (a .runs) (ap (λ x. toldPage x (a .storage) (a .keys)) (sym e) ∙ a .so))
+
+  -- and its swap word, which the way fetched, is there
+  pub swap-there : (a : Sought entry stage) {p : FoundPage} {c : ℕ} → a .answer ≡ Page p c
+      → (n : FieldNumbers) (rseg at : ℕ) → a .way ≡ findPage n rseg at
+      → has (length (a .left .storage)) (p .place) 4 ≡ true
+  swap-there a e n rseg at w =
+      let s = length (a .left .storage) in
+      let k = length (a .left .keys) in
+      gave-only (SwapThere s k) (a .way) (a .left) (a .count)
+      (ap (λ x. toldPage x (a .storage) (a .keys)) (sym e) ∙ a .so)
+      (subst (Gives s k (SwapThere s k)) (sym w) (findPage-gives s k n rseg at))
 
   -- the ending, and with it that of the instruction
   pub ended-on-way : (x : Concluded) (a : Sought entry stage) {e : Ending} {c : ℕ} → x ≡ pageEnding (a .answer)

@@ -6,6 +6,7 @@ mod keys;
 mod pages;
 mod rrb;
 mod ssk;
+mod stores;
 mod tables;
 
 pub use isk::insert_storage_key;

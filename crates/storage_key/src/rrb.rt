@@ -1,13 +1,18 @@
 // RESET REFERENCE BIT (B213), S format: the reference bit of the block that the second halfword addresses becomes zero,
 // in the real key and in the swap table; the condition code tells what reference and change bits were.
 ghost use mathlib.Core.Path.{_≡_};
+ghost use mathlib.Core.Bool.{true};
+ghost use lib.ListN.{length};
+ghost use Rattle.rules.specs.Machine.{has};
 ghost use Rattle.rules.specs.ResetReferenceBit.{resetBlockKey, resetReferenceBit};
 ghost use Rattle.storage.specs.Answers.{machine, seen, finished, finish};
 use crate::keys::marks_with;
-use crate::keys::reset_word;
+use crate::keys::reset_key;
 use crate::keys::unreferred;
 use crate::pages::Found;
 use crate::pages::find_page;
+use crate::stores::put_key;
+use crate::stores::put_swap_word;
 use crate::tables::places;
 use crate::tables::segment_table;
 use rules::Call;
@@ -20,6 +25,7 @@ use storage::Stepped;
 
 // Step 12 on a valid page, and step 13: the key of its block, and the swap word.
 fn reset_block_key(storage: &mut [u8], keys: &mut [u8], page: FoundPage) -> Concluded
+    requires { ⌜ has (length (now storage)) (page .place) 4 ≡ true ⌝ }
     ensures { λ r. ⌜
         finished r (now (storage .exit)) (now (keys .exit))
         ≡ finish (seen (resetBlockKey page) (machine (now (storage .entry)) (now (keys .entry))))
@@ -32,8 +38,8 @@ fn reset_block_key(storage: &mut [u8], keys: &mut [u8], page: FoundPage) -> Conc
     };
     let marks = old / 2 % 4;
     // 12, and then 13
-    storage::set_key(keys, block, unreferred(old));
-    storage::store_word(storage, keys, page.place, reset_word(page, marks));
+    put_key(keys, block, unreferred(old));
+    put_swap_word(storage, keys, page, reset_key(page), marks);
     let change = RecordChange::ConditionCode(marks_with(page, marks));
     storage::completed_as(change, count, 2)
 }
@@ -63,7 +69,7 @@ pub fn reset_reference_bit(storage: &mut [u8], keys: &mut [u8], call: Call) -> C
     // 12
     if page.invalid {
         // 13
-        storage::store_word(storage, keys, page.place, reset_word(page, 0));
+        put_swap_word(storage, keys, page, reset_key(page), 0);
         let change = RecordChange::ConditionCode(marks_with(page, 0));
         return storage::completed_as(change, count, 1);
     }

@@ -1,15 +1,20 @@
 // SET STORAGE KEY (08), RR format: the key of the block that R2 addresses is set from R1, in the real key and in the
 // swap table. The manual's page names R2 as the key's register; GA22-7000 says R1, and document 01 lets that decide.
 ghost use mathlib.Core.Path.{_≡_};
+ghost use mathlib.Core.Bool.{true};
+ghost use lib.ListN.{length};
+ghost use Rattle.rules.specs.Machine.{has};
 ghost use Rattle.rules.specs.SetStorageKey.{setBlockKey, setStorageKey};
 ghost use Rattle.storage.specs.Answers.{machine, seen, finished, finish};
 use crate::keys::address_word;
 use crate::keys::assists_keys;
 use crate::keys::key_word;
 use crate::keys::new_key;
-use crate::keys::swap_word;
+use crate::keys::swap_key;
 use crate::pages::Found;
 use crate::pages::find_page;
+use crate::stores::put_key;
+use crate::stores::put_swap_word;
 use crate::tables::segment_table;
 use crate::tables::steps;
 use rules::Call;
@@ -21,6 +26,7 @@ use storage::Stepped;
 
 // Step 11 on a valid page, and step 12: the key of its block, and the swap word.
 fn set_block_key(storage: &mut [u8], keys: &mut [u8], call: Call, page: FoundPage) -> Concluded
+    requires { ⌜ has (length (now storage)) (page .place) 4 ≡ true ⌝ }
     ensures { λ r. ⌜
         finished r (now (storage .exit)) (now (keys .exit))
         ≡ finish (seen (setBlockKey call page) (machine (now (storage .entry)) (now (keys .entry))))
@@ -32,13 +38,8 @@ fn set_block_key(storage: &mut [u8], keys: &mut [u8], call: Call, page: FoundPag
         return consulted.ending();
     };
     // 11, and then 12
-    storage::set_key(keys, block, new_key(key_word(call), old));
-    storage::store_word(
-        storage,
-        keys,
-        page.place,
-        swap_word(call, page, old / 2 % 4),
-    );
+    put_key(keys, block, new_key(key_word(call), old));
+    put_swap_word(storage, keys, page, swap_key(call), old / 2 % 4);
     storage::completed(count, 2)
 }
 
@@ -63,7 +64,7 @@ pub fn set_storage_key(storage: &mut [u8], keys: &mut [u8], call: Call) -> Concl
     // 11
     if page.invalid {
         // 12
-        storage::store_word(storage, keys, page.place, swap_word(call, page, 0));
+        put_swap_word(storage, keys, page, swap_key(call), 0);
         return storage::completed(count, 1);
     }
     storage::answer_after(set_block_key(storage, keys, call, page), count)

@@ -67,7 +67,7 @@ const SHOWN: [&str; 20] = [
 fn demo() {
     let run = vma(&["demo"]);
     assert_eq!((run.status, run.messages.as_str()), (Some(0), ""));
-    assert!(run.output.ends_with("\n270 edges; each answer is the second program's\n"));
+    assert!(run.output.ends_with("\n280 edges; each answer is the second program's\n"));
     for expected in SHOWN {
         assert!(run.output.contains(expected), "{expected}");
     }

@@ -1,7 +1,8 @@
 //! Every edge of document 01, section "Edges to show", those that come to "expanded" with control register 6 bit 6 both
-//! ways (document 02, R-3), those of ISK and RRB, of LRA, of recording and of low-address protection
-//! as a concrete call.
+//! ways (document 02, R-3), those of ISK and RRB, of LRA, of recording, of low-address protection
+//! and at the end of storage, as a concrete call.
 
+mod end_of_storage_edges;
 mod insert_key_edges;
 mod large;
 mod load_address_edges;
@@ -108,6 +109,7 @@ pub fn small() -> Vec<Edge> {
     edges.extend(load_address_troubles::edges());
     edges.extend(recording_edges::edges());
     edges.extend(low_address_edges::edges());
+    edges.extend(end_of_storage_edges::edges());
     edges.extend(wrong_turns::edges());
     edges
 }

@@ -1,9 +1,11 @@
 //! Every edge against values worked out by hand from document 01, with the keys as document 02, R-13 has them,
-//! those of low-address protection and of LRA; with control register 6 bit 6 as R-3 has it.
+//! those of low-address protection, of LRA and at the end of storage; with control register 6 bit 6
+//! as R-3 has it.
 //!
 //! Set-up (see `setup.rs`): 16 KiB, PSW key zero, DAT off, instruction at 1000, operand at 2000, MICBLOK at 400,
 //! ECBLOK at 500, virtual PSW at 600. Virtual register r is the word A0B0C0D0 + r times 01010101.
 
+mod end_of_storage;
 #[path = "../common/expected.rs"]
 mod expected;
 mod insert_key;
@@ -17,6 +19,7 @@ mod wrong_turns;
 
 use std::collections::BTreeSet;
 
+use end_of_storage::*;
 use expected::Expected;
 use insert_key::*;
 use load_address::{large_load_real_address, load_real_address};
@@ -43,6 +46,9 @@ fn expectations() -> Vec<Expected> {
     list.extend(store_control_low());
     list.extend(first_step_and_control_fields());
     list.extend(translated_low());
+    list.extend(virtual_psw_at_the_end());
+    list.extend(set_storage_key_at_the_end());
+    list.extend(reset_reference_bit_at_the_end());
     list.extend(wrong_turns_1_and_2());
     list.extend(wrong_turn_3());
     list.extend(wrong_turn_4());
@@ -95,10 +101,10 @@ fn storage_of_the_edges() {
 
 /// 45 small edges and 4 large ones are those of document 01, recording and the wrong turns; 14 more since document 02,
 /// R-3, 21 and 2 of low-address protection; 34 of ISK and 38 of RRB, and one each in 16 MiB; 107 and 3 of LRA
-///
+/// 10 at the end of storage.
 #[test]
 fn number_of_edges() {
-    assert_eq!((small().len(), large().len()), (45 + 14 + 21 + 34 + 38 + 107, 4 + 2 + 2 + 3));
+    assert_eq!((small().len(), large().len()), (45 + 14 + 21 + 34 + 38 + 107 + 10, 4 + 2 + 2 + 3));
     let case = |place: usize| small()[place].case.clone();
     assert!(
         case(32).ends_with("old key 04, valid page, bit 20 one") && case(33).starts_with("EC, page valid")
@@ -107,7 +113,8 @@ fn number_of_edges() {
     assert!(case(104) == "first halfword B214" && case(105).starts_with("virtual pages 2K, segments 64K"));
     assert!(case(211) == "first halfword B030" && case(212) == "tables in the page's own block");
     assert!(case(218).contains("store test records nothing") && case(219).contains("bit 3"));
-    assert!(case(239).contains("bit 3") && case(240).starts_with("wrong turn 1"));
+    assert!(case(239).contains("bit 3") && case(240) == "virtual PSW in the last halfword of storage");
+    assert!(case(249).ends_with("not in storage") && case(250).starts_with("wrong turn 1"));
 }
 
 /// Document 01 marks three edges of STCTL, five of SSM, two of STNSM, one of STOSM, which is given in both modes, and
@@ -167,7 +174,7 @@ fn lines_with_what_is_handed_back() {
         assert!(lines.iter().any(|one| one == line), "{line}");
     }
     let with = |words: &str| lines.iter().filter(|line| line.contains(words)).count();
-    assert_eq!((with(" | register "), with(" | condition code ")), (34 + 106, 36 + 106));
+    assert_eq!((with(" | register "), with(" | condition code ")), (34 + 106, 38 + 106));
 }
 
 #[test]

@@ -1,10 +1,12 @@
+use lib.ListN.{length}
 use Rattle.rules.specs.Machine.{Machine}
 use Rattle.rules.specs.Steps.{Steps}
 use Rattle.rules.specs.Call.{Completion}
 use Rattle.rules.specs.SetSystemMask.{setSystemMask}
+use Rattle.rules.proofs.Present.{maskTarget-gives}
 use Rattle.storage.specs.Answers.{machine}
 use Rattle.storage.proofs.Laws.{begin, fresh, completes}
-use Rattle.storage.proofs.Stages.{Asked, asks, asks-after, given, ended-with}
+use Rattle.storage.proofs.Stages.{Asked, asks, asks-after, given, sure, ended-with}
 use borrow.Author.Needs.{needs}
 use Rattle.masks.proofs.ssm.set_system_mask.Statement.{statement}
 use Rattle.masks.proofs.ssm.set_system_mask.Tie as tie
@@ -47,7 +49,15 @@ returns-2 c =
     ended-with (c .ending2 .result) asked (c .ending2 .ensures)
     (c .before .enum-told2 .given .1)
 
--- step 10
+-- step 10: the virtual PSW was fetched, so its first byte is there
+put-mask-requires : tie.Need-put-mask-requires
+unfolding setSystemMask operand target
+put-mask-requires c κs =
+    let found = c .before .before .before in
+    let asked = target (found .before .before) in
+    sure _ asked (found .target .given .1)
+    (maskTarget-gives (length (asked .left .storage)) (length (asked .left .keys)) _ _)
+
 returns-3 : tie.Need-returns-3
 unfolding setSystemMask operand target
 returns-3 c =
@@ -76,7 +86,7 @@ set-system-mask-spec =
     (λ c. search needs)
     (λ c. search needs)
     returns-2
-    (λ c κs. search needs)
+    put-mask-requires
     (λ c κs. search needs)
     (λ c. search needs)
     (λ c. search needs)

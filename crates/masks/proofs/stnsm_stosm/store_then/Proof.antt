@@ -1,5 +1,7 @@
+use native.Mathlib.Omega.{arith}
 use mathlib.Core.Path.{_≡_, ap, _∙_}
 use mathlib.Core.Bool.{not}
+use lib.ListN.{length}
 use Rattle.rules.specs.Machine.{Machine}
 use Rattle.rules.specs.Writes.{perform, store}
 use Rattle.rules.specs.Steps.{Steps}
@@ -7,6 +9,7 @@ use Rattle.rules.specs.Masks.{maskIn}
 use Rattle.rules.specs.ControlFields.{addressIn}
 use Rattle.rules.specs.Call.{immediate, Completion}
 use Rattle.rules.specs.StoreThenMask.{newMask, storeThen}
+use Rattle.rules.proofs.Present.{first-there, fetchBytes-gives}
 use Rattle.storage.specs.Answers.{machine}
 use Rattle.storage.proofs.Laws.{begin, fresh, completes}
 use Rattle.storage.proofs.Stages.{
@@ -16,6 +19,7 @@ use Rattle.storage.proofs.Stages.{
   asks,
   asks-after,
   given,
+  sure,
   tests,
   passed,
   reached-keys,
@@ -151,7 +155,21 @@ returns-5 c =
     ended-with (c .ending5 .result) asked (c .ending5 .ensures)
     (c .before .enum-told3 .given .1)
 
--- step 7: the old mask, then the new one
+-- step 7: the old mask, then the new one, where the first halfword was fetched
+put-mask-requires : tie.Need-put-mask-requires
+unfolding storeThen assisted field halfword
+put-mask-requires c κs =
+    let put = c .before .before .before .before .before .before in
+    let call = put .before .before .before .before .before .before .before .before .before in
+    let mask = call .before .before .before .before .before .before .before in
+    let found = masked mask .before .before in
+    let after = found .before .before in
+    let asked = halfword after in
+    let s = length (asked .left .storage) in
+    let fetched = sure _ asked (found .halfword .given .1) (fetchBytes-gives s (length (asked .left .keys)) _ 2 _) in
+    let there = first-there s _ 1 fetched in
+    omega (arith, there, address after .address-in .ensures, put .store-byte .kept .0)
+
 abbrev stored : tie.After-put-mask → tie.After-store-byte
 stored c = c .before .before .before .before .before .before .before
 
@@ -230,7 +248,7 @@ store-then-spec =
     same-length-8
     returns-5
     (λ c κs. search needs)
-    (λ c κs. search needs)
+    put-mask-requires
     (λ c κs. search needs)
     (λ c. search needs)
     same-length-10

@@ -1,4 +1,5 @@
-use mathlib.Core.Path.{_∙_}
+use native.Mathlib.Omega.{arith}
+use mathlib.Core.Path.{refl, _∙_}
 use lib.Bits.{bitOr}
 use Rattle.rules.specs.Bits.{bits}
 use Rattle.rules.specs.Machine.{Machine}
@@ -10,7 +11,7 @@ use Rattle.rules.specs.ResetReferenceBit.{storeReset, resetReferenceBit}
 use Rattle.storage.specs.Answers.{machine}
 use Rattle.storage.proofs.Laws.{begin, fresh, chosen, rejected, completes-as, finishes}
 use Rattle.storage.proofs.Stages.{Reached, Asked, asks, asks-after, given, reached-keys, ended-with}
-use Rattle.storage_key.proofs.Way.{Sought, seeks-after, found, ended-on-way}
+use Rattle.storage_key.proofs.Way.{Sought, seeks-after, found, swap-there, ended-on-way}
 use borrow.Author.Needs.{needs}
 use Rattle.storage_key.proofs.rrb.reset_reference_bit.Statement.{statement}
 use Rattle.storage_key.proofs.rrb.reset_reference_bit.Tie as tie
@@ -90,11 +91,17 @@ unfolding resetReferenceBit table second halfword way
 page c = let at = c .before in found (way (at .before .before)) (at .found .given .1)
 
 -- step 12, the page is invalid: step 13 alone
+put-swap-word-requires : tie.Need-put-swap-word-requires
+unfolding resetReferenceBit table second halfword way
+put-swap-word-requires c κs =
+    let at = c .before .before .before .before .before in
+    (swap-there (way (at .before .before)) (at .found .given .1) _ _ _ refl, omega arith)
+
 same-length-8 : tie.Need-same-length-8
 unfolding resetReferenceBit table second halfword way page
 same-length-8 c =
     let put = c .before .before .before .before .before .before in
-    put .store-word .kept .1 .0 ∙ reached-keys (page (put .before .before .before .before .before))
+    put .put-swap-word .kept .1 .0 ∙ reached-keys (page (put .before .before .before .before .before))
 
 returns-4 : tie.Need-returns-4
 unfolding resetReferenceBit storeReset table second halfword way page
@@ -105,11 +112,17 @@ returns-4 c =
     let g = here .start .args .call .guest in
     let p = test .before .before .found .given .0 .0 in
     completes-as (ConditionCode (bitOr 0 (bits 8 5 6 (virtualKey p)))) (c .completed-as .result)
-    (put .store-word .last .0) (put .store-word .last .1 .0) _ (chosen _ _ _ (here .runs) (test .if1 .taken))
+    (put .put-swap-word .last .0) (put .put-swap-word .last .1 .0) _ (chosen _ _ _ (here .runs) (test .if1 .taken))
     (simp (c .before .marks-with .ensures) at (c .completed-as .ensures))
-    (simp (put .before .reset-word .ensures) at (put .store-word .ensures))
+    (simp (put .before .reset-key .ensures) at (put .put-swap-word .ensures))
 
 -- it is valid: steps 12 and 13
+reset-block-key-requires : tie.Need-reset-block-key-requires
+unfolding resetReferenceBit table second halfword way
+reset-block-key-requires c κs =
+    let at = c .before .before .before .before in
+    swap-there (way (at .before .before)) (at .found .given .1) _ _ _ refl
+
 same-length-10 : tie.Need-same-length-10
 unfolding resetReferenceBit table second halfword way page
 same-length-10 c =
@@ -158,13 +171,13 @@ reset-reference-bit-spec =
     same-length-6
     returns-3
     (λ c κs. search needs)
-    (λ c κs. search needs)
+    put-swap-word-requires
     (λ c κs. search needs)
     (λ c κs. search needs)
     (λ c. search needs)
     same-length-8
     returns-4
-    (λ c κs. search needs)
+    reset-block-key-requires
     (λ c κs. search needs)
     (λ c. search needs)
     same-length-10

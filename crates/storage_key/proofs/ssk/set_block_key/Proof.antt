@@ -1,15 +1,19 @@
 use Prim.Native.Nat.{_*_}
+use native.Mathlib.Omega.{arith}
 use mathlib.Core.Path.{ap, _∙_}
+use lib.ListN.{length}
 use Rattle.rules.specs.Bits.{bits, word}
 use Rattle.rules.specs.Machine.{Machine}
+use Rattle.rules.specs.declared.keys.KeyUse.the-variants.{Whole}
 use Rattle.rules.specs.Writes.{perform, store}
 use Rattle.rules.specs.Steps.{Steps}
 use Rattle.rules.specs.Call.{Completion}
 use Rattle.rules.specs.SwapTables.{swapWith}
 use Rattle.rules.specs.SetStorageKey.{keyWord, storeSwapWord, setBlockKey}
+use Rattle.rules.proofs.Present.{consultKey-gives}
 use Rattle.storage.specs.Answers.{machine}
 use Rattle.storage.proofs.Laws.{begin, fresh, completes}
-use Rattle.storage.proofs.Stages.{Asked, asks, given, ended-with}
+use Rattle.storage.proofs.Stages.{Asked, asks, given, sure, ended-with}
 use borrow.Author.Needs.{needs}
 use Rattle.storage_key.proofs.ssk.set_block_key.Statement.{statement}
 use Rattle.storage_key.proofs.ssk.set_block_key.Tie as tie
@@ -36,6 +40,17 @@ returns c =
     ended-with (c .ending .result) asked (c .ending .ensures)
     (c .before .enum-told .given .1)
 
+-- step 11, the new key: it was consulted, so it is there
+put-key-requires : tie.Need-put-key-requires
+unfolding setBlockKey consulted
+put-key-requires c κs =
+    let at = c .before .before .before .before in
+    let call = at .before .before .before .before in
+    let asked = consulted call in
+    let there = sure _ asked (at .consulted .given .1)
+    (consultKey-gives (length (asked .left .storage)) (length (asked .left .keys)) Whole _ _) in
+    omega (arith, there, call .consult-key .kept .0)
+
 -- and step 12
 returns-2 : tie.Need-returns-2
 unfolding storeSwapWord setBlockKey consulted
@@ -47,9 +62,9 @@ returns-2 c =
     let a = here .start .args in
     let swap = swapWith (a .page) (word 24 30 (keyWord (a .call)) * 2) (bits 8 5 6 (old .consulted .given .0 .0)) in
     let first = simp (set .before .new-key .ensures, set .before .before .key-word .ensures) at
-    (set .set-key .ensures (a .storage .now)) in
-    let second = simp (put .before .swap-word .ensures) at (put .store-word .ensures) in
-    completes (c .completed .result) (put .store-word .last .0) (put .store-word .last .1 .0) _
+    (set .put-key .ensures (a .storage .now)) in
+    let second = simp (put .before .swap-key .ensures) at (put .put-swap-word .ensures) in
+    completes (c .completed .result) (put .put-swap-word .last .0) (put .put-swap-word .last .1 .0) _
     (here .runs) (c .completed .ensures) (second ∙ ap (λ m. perform m (store (a .page .place) 4 swap)) first)
 
 pub set-block-key-spec : {M : Type 1} → statement M
@@ -64,7 +79,7 @@ set-block-key-spec =
     returns
     (λ c κs. search needs)
     (λ c κs. search needs)
-    (λ c κs. search needs)
+    put-key-requires
     (λ c κs. search needs)
     (λ c κs. search needs)
     (λ c κs. search needs)

@@ -1,4 +1,5 @@
-use mathlib.Core.Path.{_∙_}
+use native.Mathlib.Omega.{arith}
+use mathlib.Core.Path.{refl, _∙_}
 use Rattle.rules.specs.Machine.{Machine}
 use Rattle.rules.specs.Steps.{Steps}
 use Rattle.rules.specs.Call.{Completion}
@@ -6,7 +7,7 @@ use Rattle.rules.specs.SetStorageKey.{storeSwapWord, setStorageKey}
 use Rattle.storage.specs.Answers.{machine}
 use Rattle.storage.proofs.Laws.{begin, fresh, chosen, rejected, completes, finishes}
 use Rattle.storage.proofs.Stages.{Reached, Asked, asks, given, reached-keys, ended-with}
-use Rattle.storage_key.proofs.Way.{Sought, seeks-after, found, ended-on-way}
+use Rattle.storage_key.proofs.Way.{Sought, seeks-after, found, swap-there, ended-on-way}
 use borrow.Author.Needs.{needs}
 use Rattle.storage_key.proofs.ssk.set_storage_key.Statement.{statement}
 use Rattle.storage_key.proofs.ssk.set_storage_key.Tie as tie
@@ -62,11 +63,17 @@ unfolding setStorageKey table way
 page c = let at = c .before in found (way (at .before .before)) (at .found .given .1)
 
 -- step 11, the page is invalid: step 12 alone
+put-swap-word-requires : tie.Need-put-swap-word-requires
+unfolding setStorageKey table way
+put-swap-word-requires c κs =
+    let at = c .before .before .before .before .before in
+    (swap-there (way (at .before .before)) (at .found .given .1) _ _ _ refl, omega arith)
+
 same-length-6 : tie.Need-same-length-6
 unfolding setStorageKey table way page
 same-length-6 c =
     let put = c .before .before .before .before .before in
-    put .store-word .kept .1 .0 ∙ reached-keys (page (put .before .before .before .before .before))
+    put .put-swap-word .kept .1 .0 ∙ reached-keys (page (put .before .before .before .before .before))
 
 returns-3 : tie.Need-returns-3
 unfolding setStorageKey storeSwapWord table way page
@@ -74,11 +81,17 @@ returns-3 c =
     let put = c .before .before .before .before .before in
     let test = put .before .before .before .before in
     let here = page (test .before) in
-    completes (c .completed .result) (put .store-word .last .0) (put .store-word .last .1 .0)
+    completes (c .completed .result) (put .put-swap-word .last .0) (put .put-swap-word .last .1 .0)
     _ (chosen _ _ _ (here .runs) (test .if1 .taken)) (c .completed .ensures)
-    (simp (put .before .swap-word .ensures) at (put .store-word .ensures))
+    (simp (put .before .swap-key .ensures) at (put .put-swap-word .ensures))
 
 -- it is valid: steps 11 and 12
+set-block-key-requires : tie.Need-set-block-key-requires
+unfolding setStorageKey table way
+set-block-key-requires c κs =
+    let at = c .before .before .before .before in
+    swap-there (way (at .before .before)) (at .found .given .1) _ _ _ refl
+
 same-length-8 : tie.Need-same-length-8
 unfolding setStorageKey table way page
 same-length-8 c =
@@ -119,12 +132,12 @@ set-storage-key-spec =
     (λ c. search needs)
     returns-2
     (λ c κs. search needs)
-    (λ c κs. search needs)
+    put-swap-word-requires
     (λ c κs. search needs)
     (λ c. search needs)
     same-length-6
     returns-3
-    (λ c κs. search needs)
+    set-block-key-requires
     (λ c κs. search needs)
     (λ c. search needs)
     same-length-8

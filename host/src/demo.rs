@@ -1,5 +1,5 @@
-//! `vma demo`: the edges of document 01, those of ISK and RRB, of LRA, of recording and of low-address protection,
-//! through the library, and whether the second program says the same.
+//! `vma demo`: the edges of document 01, those of ISK and RRB, of LRA, of recording, of low-address protection and at
+//! the end of storage, through the library, and whether the second program says the same.
 
 use std::ffi::OsString;
 
@@ -17,12 +17,12 @@ pub const COMMAND: Command = Command { name: "demo", help: HELP, action: Action:
 const HELP: &str = "usage: vma demo
 
 Runs the edges of document 01 (section \"Edges to show\"), its wrong turns, and the edges of ISK and RRB, of
-LRA, of reference and change recording and of low-address protection (document 02, R-4, R-9, R-13 and R-6)
-through the proved library, and prints for each what comes of it: the ending, the count of references, the
-next instruction address, of ISK and LRA register R1, of RRB and LRA the condition code, and the bytes and
-keys that changed, old -> new. (*) marks the edges of document 01 that are also proved, as one table.
-Addresses, registers, bytes and keys are hex; endings, codes, steps, places, counts, register and block
-numbers are decimal.
+LRA, of reference and change recording, of low-address protection and at the end of storage (document 02,
+R-4, R-9, R-13, R-6 and R-10) through the proved library, and prints for each what comes of it: the ending,
+the count of references, the next instruction address, of ISK and LRA register R1, of RRB and LRA the
+condition code, and the bytes and keys that changed, old -> new. (*) marks the edges of document 01 that are
+also proved, as one table. Addresses, registers, bytes and keys are hex; endings, codes, steps, places,
+counts, register and block numbers are decimal.
 
 Each answer is compared with the second program's: its numbers, the record, every byte and every key. If one
 differs, it is said where, and the status is 1.

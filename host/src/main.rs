@@ -38,8 +38,8 @@ const HELP: &str = "usage: vma demo
 The virtual-machine assist of System/370 for SSM, STCTL, STNSM, STOSM, SSK, ISK, RRB and LRA, by the proved
 library.
 
-  demo     the edges of document 01, of ISK and RRB, of LRA, of recording and of low-address protection, with
-           what comes of each
+  demo     the edges of document 01, of ISK and RRB, of LRA, of recording, of low-address protection and at
+           the end of storage, with what comes of each
   attempt  one attempt, on storage, keys and a guest's record in files
   bench    the library's time for a call beside that of plain Rust
   fuzz     random calls, each also written down in a trail, compared with the second program

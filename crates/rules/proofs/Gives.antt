@@ -1,13 +1,13 @@
 -- A predicate on reading programs, from which is read what a run can give: on so many bytes with so many keys, where
 -- every item that was read is there.
-use Prim.Native.Nat.{ℕ, _<_}
+use Prim.Native.Nat.{ℕ}
 use mathlib.Core.Path.{_≡_, refl, _∙_, subst}
 use mathlib.Core.Bool.{Bool, true, false}
 use lib.ListN.{length, getD}
 use lib.Dec.{ltb}
 use Rattle.rules.specs.Endings.{Ending}
 use Rattle.rules.specs.Machine.{Machine, has, value}
-use Rattle.rules.specs.References.{Reference, seenAs, fetched, consulted}
+use Rattle.rules.specs.References.{KeyUse, Reference, seenAs, fetched, consulted}
 use Rattle.rules.specs.Recording.{noted}
 use Rattle.rules.specs.Steps.{Steps, done, stop, fetch, key, branch, _>>=_}
 use Rattle.rules.specs.Run.{Outcome, ended, gave, Run, run, item}
@@ -85,7 +85,7 @@ module _ {A : Type 0} (P : Reference → Type 0) where
 
   pub run-all : (p : Steps A) (m : Machine) (k : ℕ) → length (m .keys) ≡ k
       → ((a n : ℕ) → has (length (m .storage)) a n ≡ true → P (fetched a n))
-      → ((u : _) (b : ℕ) → ltb b k ≡ true → P (consulted u b))
+      → ((u : KeyUse) (b : ℕ) → ltb b k ≡ true → P (consulted u b))
       → All P (run p m .references)
   run-all (done a) m k e f g = tt
   run-all (stop x) m k e f g = tt

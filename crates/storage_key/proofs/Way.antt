@@ -15,7 +15,7 @@ use Rattle.rules.specs.SwapTables.{findPage}
 use Rattle.storage.specs.declared.steps.Stepped.the-variants as step
 use Rattle.storage.specs.Answers.{seen, finished, finish}
 use Rattle.rules.proofs.Gives.{Gives}
-use Rattle.rules.proofs.Present.{SwapThere, findPage-gives}
+use Rattle.rules.proofs.Present.StorageKeys.{SwapThere, findPage-gives}
 use Rattle.storage.proofs.Laws.{more, Runs, gave-only, goes, ends}
 use Rattle.storage.proofs.Stages.{Reached, Asked, reached, ended}
 use Rattle.storage_key.specs.Way.{

@@ -1,6 +1,6 @@
 -- Every entry of an attempt names what is there: an entry is made only for what is, and what is written was read or
 -- tested before.
-use Prim.Native.Nat.{ℕ, _+_, _*_, _/_, _<_}
+use Prim.Native.Nat.{ℕ, _/_, _<_}
 use native.Mathlib.Omega.{arith}
 use mathlib.Core.Path.{_≡_, refl, ap, _∙_}
 use mathlib.Core.Bool.{Bool, true, false, not}
@@ -17,7 +17,7 @@ use Rattle.rules.specs.Endings.{
   OddInstructionAddress,
   NotAssisted,
 }
-use Rattle.rules.specs.References.{Reference, fetched, consulted, wrote, keySet}
+use Rattle.rules.specs.References.{Reference, fetched}
 use Rattle.rules.specs.Writes.{Write, store, setKey, entry}
 use Rattle.rules.specs.Steps.{Steps, stop, branch, _>>=_, _>>_, stopIf}
 use Rattle.rules.specs.Run.{Outcome, ended, gave, Run, run}
@@ -40,7 +40,8 @@ use Rattle.rules.proofs.Puts.{length-puts}
 use Rattle.rules.proofs.Acts.{concluded-length}
 use Rattle.rules.proofs.Together.{storagePuts, concluded-storage}
 use Rattle.rules.proofs.Gives.{Gives, IfGave, run-gives, run-all}
-use Rattle.rules.proofs.Present.{Sized, sized, each-there, Inside, AllInside, instruction-inside}
+use Rattle.rules.proofs.Present.{Sized, sized, each-there, Inside, AllInside}
+use Rattle.rules.proofs.Present.Instruction.{instruction-inside}
 
 module _ (m : Machine) (z : Sized (length (m .storage)) (length (m .keys))) where
   abbrev s : ℕ

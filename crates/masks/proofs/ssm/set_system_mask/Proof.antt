@@ -3,7 +3,7 @@ use Rattle.rules.specs.Machine.{Machine}
 use Rattle.rules.specs.Steps.{Steps}
 use Rattle.rules.specs.Call.{Completion}
 use Rattle.rules.specs.SetSystemMask.{setSystemMask}
-use Rattle.rules.proofs.Present.{maskTarget-gives}
+use Rattle.rules.proofs.Present.Masks.{maskTarget-gives}
 use Rattle.storage.specs.Answers.{machine}
 use Rattle.storage.proofs.Laws.{begin, fresh, completes}
 use Rattle.storage.proofs.Stages.{Asked, asks, asks-after, given, sure, ended-with}

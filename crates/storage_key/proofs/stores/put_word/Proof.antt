@@ -42,7 +42,7 @@ returns c =
       recorded .record-word .ensures,
     )
 
--- a word in one block, whose addresses follow each other
+-- the addresses of a word in one block follow each other
 straight : (a : ℕ) → a + 3 < 2 ^ 24 → addresses a 4 ≡ (a ∷ (a + 1) ∷ (a + 2) ∷ (a + 3) ∷ [])
 straight a h =
     let one : (a + 1) % 16777216 ≡ a + 1 = omega arith in
@@ -50,19 +50,25 @@ straight a h =
     let three : (a + 2 + 1) % 16777216 ≡ a + 3 = omega arith in
     simp (one, two, three)
 
-abbrev start : tie.After-is-across → tie.Start
-start c = c .before .before .before
+abbrev start : tie.Else1 → tie.Start
+start c = c .before .before .before .before
+
+inside : (c : tie.Else1) → across (start c .args .at) ≡ false
+inside c = sym (c .before .is-across .ensures) ∙ c .if1 .left
+
+below-top : (c : tie.Else1) → start c .args .at + 3 < 2 ^ 24
+below-top c =
+    let w = within (start c .args .at) (inside c) in
+    let below = w .0 in
+    let ends = w .1 in
+    omega arith
 
 put-bytes-requires-2 : tie.Need-put-bytes-requires-2
 put-bytes-requires-2 c κs =
     let test = c .before in
-    let known = start (test .before) in
-    let a = known .args in
-    let inside : across (a .at) ≡ false = sym (test .before .is-across .ensures) ∙ test .if1 .left in
-    let w = within (a .at) inside in
-    let below = w .0 in
-    let ends = w .1 in
-    let there = each-there (length (a .storage .now)) (addresses (a .at) 4) (known .pre) in
+    let a = start test .args in
+    let short = below-top test in
+    let there = each-there (length (a .storage .now)) (addresses (a .at) 4) (start test .pre) in
     let last = there .1 .1 .1 .0 in
     (omega arith, omega arith, omega arith, omega arith)
 
@@ -71,17 +77,13 @@ returns-2 c =
     let recorded = c .before .before in
     let put = recorded .before .before .before .before in
     let test = put .before .before in
-    let a = start (test .before) .args in
-    let inside : across (a .at) ≡ false = sym (test .before .is-across .ensures) ∙ test .if1 .left in
-    let w = within (a .at) inside in
-    let below = w .0 in
-    let ends = w .1 in
+    let a = start test .args in
     simp (
       put .put-bytes2 .ensures,
-      one-block (a .at) inside Store (a .keys .now) (recorded .record-byte .ensures),
+      one-block (a .at) (inside test) Store (a .keys .now) (recorded .record-byte .ensures),
     )
     (ap (λ at. machine (stored (a .storage .now) at (a .value)) (marked changed (a .keys .now) (addresses (a .at) 4)))
-    (sym (straight (a .at) (omega arith))))
+    (sym (straight (a .at) (below-top test))))
 
 pub put-word-spec : {M : Type 1} → statement M
 put-word-spec =

@@ -108,16 +108,18 @@ pub(crate) fn swap_with(page: FoundPage, key: u8, marks: u32) -> u32
     marked(left, marks * 4) * 16777216 + second + key as u32 * 256 + word % 256
 }
 
-// SSK, step 12: the new virtual key is R1 bits 24-30 and a zero.
-pub(crate) fn swap_key(call: Call) -> u8
-    ensures { λ r. ⌜ r ≡ word 24 30 (keyWord call) * 2 ⌝ }
+// SSK, step 12: R1 bits 24-30 and a zero in the swap word.
+pub(crate) fn swap_word(call: Call, page: FoundPage, marks: u32) -> u32
+    requires { ⌜ marks < 4 ⌝ }
+    ensures { λ r. ⌜ r ≡ swapWith page (word 24 30 (keyWord call) * 2) marks ⌝ }
 {
-    (key_word(call) / 2 % 128 * 2) as u8
+    swap_with(page, (key_word(call) / 2 % 128 * 2) as u8, marks)
 }
 
-// RRB, step 13: the virtual key with its reference bit zero.
-pub(crate) fn reset_key(page: FoundPage) -> u8
-    ensures { λ r. ⌜ r ≡ unreferred (virtualKey page) ⌝ }
+// RRB, step 13: the virtual reference bit is zero there.
+pub(crate) fn reset_word(page: FoundPage, marks: u32) -> u32
+    requires { ⌜ marks < 4 ⌝ }
+    ensures { λ r. ⌜ r ≡ swapWith page (unreferred (virtualKey page)) marks ⌝ }
 {
-    unreferred(virtual_key(page) as u32)
+    swap_with(page, unreferred(virtual_key(page) as u32), marks)
 }

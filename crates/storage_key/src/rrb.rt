@@ -7,7 +7,7 @@ ghost use Rattle.rules.specs.Machine.{has};
 ghost use Rattle.rules.specs.ResetReferenceBit.{resetBlockKey, resetReferenceBit};
 ghost use Rattle.storage.specs.Answers.{machine, seen, finished, finish};
 use crate::keys::marks_with;
-use crate::keys::reset_key;
+use crate::keys::reset_word;
 use crate::keys::unreferred;
 use crate::pages::Found;
 use crate::pages::find_page;
@@ -39,7 +39,7 @@ fn reset_block_key(storage: &mut [u8], keys: &mut [u8], page: FoundPage) -> Conc
     let marks = old / 2 % 4;
     // 12, and then 13
     put_key(keys, block, unreferred(old));
-    put_swap_word(storage, keys, page, reset_key(page), marks);
+    put_swap_word(storage, keys, page.place, reset_word(page, marks));
     let change = RecordChange::ConditionCode(marks_with(page, marks));
     storage::completed_as(change, count, 2)
 }
@@ -69,7 +69,7 @@ pub fn reset_reference_bit(storage: &mut [u8], keys: &mut [u8], call: Call) -> C
     // 12
     if page.invalid {
         // 13
-        put_swap_word(storage, keys, page, reset_key(page), 0);
+        put_swap_word(storage, keys, page.place, reset_word(page, 0));
         let change = RecordChange::ConditionCode(marks_with(page, 0));
         return storage::completed_as(change, count, 1);
     }

@@ -10,7 +10,7 @@ use crate::keys::address_word;
 use crate::keys::assists_keys;
 use crate::keys::key_word;
 use crate::keys::new_key;
-use crate::keys::swap_key;
+use crate::keys::swap_word;
 use crate::pages::Found;
 use crate::pages::find_page;
 use crate::stores::put_key;
@@ -39,7 +39,12 @@ fn set_block_key(storage: &mut [u8], keys: &mut [u8], call: Call, page: FoundPag
     };
     // 11, and then 12
     put_key(keys, block, new_key(key_word(call), old));
-    put_swap_word(storage, keys, page, swap_key(call), old / 2 % 4);
+    put_swap_word(
+        storage,
+        keys,
+        page.place,
+        swap_word(call, page, old / 2 % 4),
+    );
     storage::completed(count, 2)
 }
 
@@ -64,7 +69,7 @@ pub fn set_storage_key(storage: &mut [u8], keys: &mut [u8], call: Call) -> Concl
     // 11
     if page.invalid {
         // 12
-        put_swap_word(storage, keys, page, swap_key(call), 0);
+        put_swap_word(storage, keys, page.place, swap_word(call, page, 0));
         return storage::completed(count, 1);
     }
     storage::answer_after(set_block_key(storage, keys, call, page), count)

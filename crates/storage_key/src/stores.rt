@@ -7,10 +7,7 @@ ghost use mathlib.Core.List.{List, [], _∷_};
 ghost use lib.ListN.{length};
 ghost use Rattle.rules.specs.Machine.{has, stored};
 ghost use Rattle.rules.specs.Writes.{perform, store, setKey};
-ghost use Rattle.rules.specs.SwapTables.{swapWith};
 ghost use Rattle.storage.specs.Answers.{machine};
-use crate::keys::swap_with;
-use rules::FoundPage;
 use storage::Access;
 
 // A key that was consulted is set. That is no access to its block, and is not recorded.
@@ -52,8 +49,8 @@ fn put_bytes(
     storage[fourth] = (value % 256) as u8;
 }
 
-// A word that was fetched. It may stand across a block boundary, or go round the top of storage.
-fn put_word(storage: &mut [u8], keys: &mut [u8], at: u32, value: u32)
+// A swap word that was fetched. It may go round the top of storage, or stand across a block boundary.
+pub(crate) fn put_swap_word(storage: &mut [u8], keys: &mut [u8], at: u32, value: u32)
     requires { ⌜ has (length (now storage)) at 4 ≡ true ⌝ }
     ensures { λ _. ⌜
         machine (now (storage .exit)) (now (keys .exit))
@@ -61,7 +58,7 @@ fn put_word(storage: &mut [u8], keys: &mut [u8], at: u32, value: u32)
         ⌝ }
 {
     let first = at as usize;
-    if storage::is_across(at) {
+    if 16777212 < at {
         let second = rules::sum(at, 1);
         let third = rules::sum(second, 1);
         let fourth = rules::sum(third, 1);
@@ -77,23 +74,9 @@ fn put_word(storage: &mut [u8], keys: &mut [u8], at: u32, value: u32)
         return;
     }
     put_bytes(storage, first, first + 1, first + 2, first + 3, value);
+    if storage::is_across(at) {
+        storage::record_word(keys, Access::Store, at);
+        return;
+    }
     storage::record_byte(keys, Access::Store, at);
-}
-
-// The swap word of a page that was found, with another virtual key, and with reference and change bits.
-pub(crate) fn put_swap_word(
-    storage: &mut [u8],
-    keys: &mut [u8],
-    page: FoundPage,
-    key: u8,
-    marks: u32,
-)
-    requires { ⌜ (has (length (now storage)) (page .place) 4 ≡ true) × (marks < 4) ⌝ }
-    ensures { λ _. ⌜
-        machine (now (storage .exit)) (now (keys .exit))
-        ≡ perform (machine (now (storage .entry)) (now (keys .entry)))
-        (store (page .place) 4 (swapWith page key marks))
-        ⌝ }
-{
-    put_word(storage, keys, page.place, swap_with(page, key, marks));
 }

@@ -76,7 +76,7 @@ returns-2 c =
     let marks = bits 8 5 6 (set .before .before .before .before .consulted .given .0 .0) in
     let swap = swapWith (a .page) (unreferred (virtualKey (a .page))) marks in
     let first = simp (set .before .unreferred .ensures) at (set .put-key .ensures (a .storage .now)) in
-    let second = simp (put .before .reset-key .ensures) at (put .put-swap-word .ensures) in
+    let second = simp (put .before .reset-word .ensures) at (put .put-swap-word .ensures) in
     completes-as (ConditionCode (bitOr marks (bits 8 5 6 (virtualKey (a .page)))))
     (c .completed-as .result) (put .put-swap-word .last .0) (put .put-swap-word .last .1 .0) _ (here .runs)
     (simp (c .before .marks-with .ensures) at (c .completed-as .ensures))

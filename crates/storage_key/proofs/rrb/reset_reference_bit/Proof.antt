@@ -1,4 +1,3 @@
-use native.Mathlib.Omega.{arith}
 use mathlib.Core.Path.{refl, _∙_}
 use lib.Bits.{bitOr}
 use Rattle.rules.specs.Bits.{bits}
@@ -95,7 +94,7 @@ put-swap-word-requires : tie.Need-put-swap-word-requires
 unfolding resetReferenceBit table second halfword way
 put-swap-word-requires c κs =
     let at = c .before .before .before .before .before in
-    (swap-there (way (at .before .before)) (at .found .given .1) _ _ _ refl, omega arith)
+    swap-there (way (at .before .before)) (at .found .given .1) _ _ _ refl
 
 same-length-8 : tie.Need-same-length-8
 unfolding resetReferenceBit table second halfword way page
@@ -114,7 +113,7 @@ returns-4 c =
     completes-as (ConditionCode (bitOr 0 (bits 8 5 6 (virtualKey p)))) (c .completed-as .result)
     (put .put-swap-word .last .0) (put .put-swap-word .last .1 .0) _ (chosen _ _ _ (here .runs) (test .if1 .taken))
     (simp (c .before .marks-with .ensures) at (c .completed-as .ensures))
-    (simp (put .before .reset-key .ensures) at (put .put-swap-word .ensures))
+    (simp (put .before .reset-word .ensures) at (put .put-swap-word .ensures))
 
 -- it is valid: steps 12 and 13
 reset-block-key-requires : tie.Need-reset-block-key-requires

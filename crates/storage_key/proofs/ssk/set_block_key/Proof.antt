@@ -63,7 +63,7 @@ returns-2 c =
     let swap = swapWith (a .page) (word 24 30 (keyWord (a .call)) * 2) (bits 8 5 6 (old .consulted .given .0 .0)) in
     let first = simp (set .before .new-key .ensures, set .before .before .key-word .ensures) at
     (set .put-key .ensures (a .storage .now)) in
-    let second = simp (put .before .swap-key .ensures) at (put .put-swap-word .ensures) in
+    let second = simp (put .before .swap-word .ensures) at (put .put-swap-word .ensures) in
     completes (c .completed .result) (put .put-swap-word .last .0) (put .put-swap-word .last .1 .0) _
     (here .runs) (c .completed .ensures) (second ∙ ap (λ m. perform m (store (a .page .place) 4 swap)) first)
 

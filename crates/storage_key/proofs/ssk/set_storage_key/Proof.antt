@@ -1,4 +1,3 @@
-use native.Mathlib.Omega.{arith}
 use mathlib.Core.Path.{refl, _∙_}
 use Rattle.rules.specs.Machine.{Machine}
 use Rattle.rules.specs.Steps.{Steps}
@@ -67,7 +66,7 @@ put-swap-word-requires : tie.Need-put-swap-word-requires
 unfolding setStorageKey table way
 put-swap-word-requires c κs =
     let at = c .before .before .before .before .before in
-    (swap-there (way (at .before .before)) (at .found .given .1) _ _ _ refl, omega arith)
+    swap-there (way (at .before .before)) (at .found .given .1) _ _ _ refl
 
 same-length-6 : tie.Need-same-length-6
 unfolding setStorageKey table way page
@@ -83,7 +82,7 @@ returns-3 c =
     let here = page (test .before) in
     completes (c .completed .result) (put .put-swap-word .last .0) (put .put-swap-word .last .1 .0)
     _ (chosen _ _ _ (here .runs) (test .if1 .taken)) (c .completed .ensures)
-    (simp (put .before .swap-key .ensures) at (put .put-swap-word .ensures))
+    (simp (put .before .swap-word .ensures) at (put .put-swap-word .ensures))
 
 -- it is valid: steps 11 and 12
 set-block-key-requires : tie.Need-set-block-key-requires

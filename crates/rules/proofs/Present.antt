@@ -13,7 +13,7 @@ use mathlib.Core.List.{List, [], _∷_}
 use lib.Dec.{eqb, ltb}
 use borrow.Author.Tests.{ltb-true, ltb-false, lt-ltb, eqb-true, not-false}
 use Rattle.operations.proofs.Junctions.{both-true, neither-true}
-use Rattle.rules.specs.Machine.{_⊕_, addresses, present, has}
+use Rattle.rules.specs.Machine.{addresses, present, has}
 use Rattle.rules.specs.Bits.{word}
 use Rattle.rules.specs.Endings.{Ending}
 use Rattle.rules.specs.References.{KeyUse}
@@ -62,15 +62,6 @@ first-there s a n h = each-there s (addresses a (suc n)) h .0
 
 pub byte-inside : (s a : ℕ) → a < s → has s a 1 ≡ true
 byte-inside s a h = rw (lt-ltb a s h)
-
-pub word-inside : (s a : ℕ) → a + 3 < s → s ≤ 2 ^ 24 → has s a 4 ≡ true
-word-inside s a h l =
-    rw (
-      lt-ltb a s (omega arith),
-      lt-ltb (a ⊕ 1) s (omega arith),
-      lt-ltb (a ⊕ 1 ⊕ 1) s (omega arith),
-      lt-ltb (a ⊕ 1 ⊕ 1 ⊕ 1) s (omega arith),
-    )
 
 module _ (s k : ℕ) where
   -- what was fetched, and what was consulted

@@ -1,35 +1,11 @@
 -- Proofs of the theorems about items, under the same names.
-use Prim.Native.Nat.{ℕ, zero, suc, _+_, _^_, _<_}
 use native.Mathlib.Omega.{arith}
-use mathlib.Core.Path.{_≡_, refl, sym, ap, _∙_}
-use mathlib.Core.Bool.{Bool, true, false, _&&_}
-use lib.Dec.{ltb}
-use borrow.Author.Tests.{ltb-true, lt-ltb, le-ltb}
+use mathlib.Core.Path.{ap}
+use mathlib.Core.Bool.{_&&_}
+use borrow.Author.Tests.{lt-ltb, le-ltb}
 use Rattle.rules.specs.Machine.{_⊕_, has}
+use Rattle.rules.proofs.Items.{last-of}
 use Rattle.storage.specs.Theorems.{LastByteDecides, NoneBeyond}
-
--- before a test that it follows from, a test adds nothing
-implied : (b c : Bool) → (c ≡ true → b ≡ true) → c ≡ (b && c)
-implied true c h = refl
-implied false true h = sym (h refl)
-implied false false h = refl
-
--- LastByteDecides for n + 1 bytes
-last-of : (n size a : ℕ) → a + n < 2 ^ 24 → ltb (a + n) size ≡ has size a (suc n)
-last-of zero size a h =
-    let e : a + 0 ≡ a = omega arith in
-    ap (λ b. ltb b size) e ∙ step (ltb a size)
-  where
-    step : (b : Bool) → b ≡ (b && true)
-    step true = refl
-    step false = refl
-last-of (suc n) size a h =
-    let e : _≡_ {A = ℕ} (a ⊕ 1) (a + 1) = omega arith in
-    let f : a + suc n ≡ (a ⊕ 1) + n = omega arith in
-    implied (ltb a size) (ltb (a + suc n) size)
-    (λ t. let l = ltb-true (a + suc n) size t in lt-ltb a size (omega arith))
-    ∙ ap (λ b. ltb a size && ltb b size) f
-    ∙ ap (λ b. ltb a size && b) (last-of n size (a ⊕ 1) (omega arith))
 
 pub last-byte-decides : LastByteDecides
 last-byte-decides size a h = last-of 3 size a (omega arith)

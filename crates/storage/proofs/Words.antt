@@ -8,9 +8,17 @@ use mathlib.Core.List.{List, [], _∷_, _++_}
 use lib.ListN.{length, getD, take, drop, set}
 use lib.Dec.{ltb}
 use borrow.Author.Tests.{lt-ltb, le-ltb}
-use Rattle.rules.specs.Machine.{addresses, value, stored}
+use Rattle.rules.specs.Machine.{addresses, valueAt, value, stored}
 use Rattle.storage.specs.Items.{itemAt, wordBytes}
 use Rattle.storage.proofs.Theorems.{last-byte-decides}
+
+-- its addresses follow each other
+pub straight : (a : ℕ) → a ≤ 2 ^ 24 - 4 → addresses a 4 ≡ (a ∷ (a + 1) ∷ (a + 2) ∷ (a + 3) ∷ [])
+straight a h =
+    let one : (a + 1) % 16777216 ≡ a + 1 = omega arith in
+    let two : (a + 1 + 1) % 16777216 ≡ a + 2 = omega arith in
+    let three : (a + 2 + 1) % 16777216 ≡ a + 3 = omega arith in
+    simp (one, two, three)
 
 -- four stores one after the other put their bytes between what stands before and after them
 between : (s : List ℕ) (a x y z w : ℕ) → a + 4 ≤ length s
@@ -43,10 +51,9 @@ module _ (s : List ℕ) (a : ℕ) (k : a ≤ 2 ^ 24 - 4) where
       → itemAt s a 4
       ≡ some (getD s a 0 * 16777216 + getD s (a + 1) 0 * 65536 + getD s (a + 2) 0 * 256 + getD s (a + 3) 0)
   word-there h =
-      let one : (a + 1) % 16777216 ≡ a + 1 = omega arith in
-      let two : (a + 1 + 1) % 16777216 ≡ a + 2 = omega arith in
-      let three : (a + 2 + 1) % 16777216 ≡ a + 3 = omega arith in
-      by-last-byte (lt-ltb (a + 3) (length s) h) ∙ simp (one, two, three) (ap some (omega arith))
+      by-last-byte (lt-ltb (a + 3) (length s) h)
+      ∙ ap (λ at. some (valueAt s at 0)) (straight a k)
+      ∙ ap some (omega arith)
 
   pub word-missing : length s ≤ a + 3 → itemAt s a 4 ≡ none
   word-missing h = by-last-byte (le-ltb (a + 3) (length s) h)

@@ -22,7 +22,8 @@ use Rattle.rules.specs.StoreControl.{
 use Rattle.rules.specs.Theorems.Isolation.{All}
 use Rattle.rules.proofs.All.{all-append}
 use Rattle.rules.proofs.Gives.{Gives, gives-then, gives-after}
-use Rattle.rules.proofs.Present.{Sized, Inside, AllInside, word-inside, storeTest-gives}
+use Rattle.rules.proofs.Items.{last-there}
+use Rattle.rules.proofs.Present.{Sized, Inside, AllInside, storeTest-gives}
 
 module _ (s k : ℕ) (z : Sized s k) where
   -- a word's real address
@@ -46,7 +47,8 @@ module _ (s k : ℕ) (z : Sized s k) where
       let there : real < s = h .0 .0 in
       let aligned : real % 4 ≡ 0 = h .0 .1 in
       let blocks = z .blocks in
-      (word-inside s real (omega arith) (z .most), wordStores-inside reals values (h .1))
+      let most = z .most in
+      (last-there 3 s real (omega arith) (omega arith), wordStores-inside reals values (h .1))
 
   storeWords-inside : (c : Call) (ecblok a : ℕ) → a % 4 ≡ 0
       → let n = registerCount (r1 c) (r3 c) in

@@ -1,12 +1,11 @@
-use Prim.Native.Nat.{ℕ, _+_, _%_, _^_, _<_}
 use native.Mathlib.Omega.{arith}
 use mathlib.Core.Path.{_≡_, sym, ap, _∙_}
-use mathlib.Core.List.{[], _∷_}
 use lib.ListN.{length}
 use Rattle.rules.specs.Machine.{addresses, stored}
 use Rattle.rules.proofs.Present.{each-there}
 use Rattle.storage.specs.declared.recording.Access.the-variants.{Store}
 use Rattle.storage.proofs.Recorded.{one-block}
+use Rattle.storage.proofs.Words.{straight}
 use borrow.Author.Needs.{needs}
 use Rattle.storage_key.proofs.stores.put_swap_word.Statement.{statement}
 use Rattle.storage_key.proofs.stores.put_swap_word.Tie as tie
@@ -41,13 +40,6 @@ returns c =
 
 -- ---- one that doesn't: its addresses follow each other
 
-straight : (a : ℕ) → a + 3 < 2 ^ 24 → (a ∷ (a + 1) ∷ (a + 2) ∷ (a + 3) ∷ []) ≡ addresses a 4
-straight a h =
-    let one : (a + 1) % 16777216 ≡ a + 1 = omega arith in
-    let two : (a + 1 + 1) % 16777216 ≡ a + 2 = omega arith in
-    let three : (a + 2 + 1) % 16777216 ≡ a + 3 = omega arith in
-    simp (one, two, three)
-
 put-bytes-requires-2 : tie.Need-put-bytes-requires-2
 put-bytes-requires-2 c κs =
     let test = c .before in
@@ -65,7 +57,7 @@ in-place c =
     let test = c .before .before in
     let below = test .if1 .left in
     let a = test .before .before .before .args in
-    c .put-bytes2 .ensures ∙ ap (λ at. stored (a .storage .now) at (a .value)) (straight (a .at) (omega arith))
+    c .put-bytes2 .ensures ∙ ap (λ at. stored (a .storage .now) at (a .value)) (sym (straight (a .at) (omega arith)))
 
 -- across a block boundary, and in one block
 returns-2 : tie.Need-returns-2

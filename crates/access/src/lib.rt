@@ -1,4 +1,5 @@
 // How an instruction reaches storage: translation, the access test, logical fetches, and the control program's fields.
+#![tactic(auto)]
 
 mod control_fields;
 mod logical;

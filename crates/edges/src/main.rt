@@ -1,6 +1,8 @@
 // Runs every edge of document 01, "Edges to show", but those in 16 MiB, which `vma demo` runs; those of ISK, RRB and
 // LRA, of recording, of low-address protection and at the end of storage; and every wrong turn.
 // It prints a line for each; `second edges` writes the lines that must come.
+#![tactic(auto)]
+
 use crate::end_of_storage::run_end_of_storage;
 use crate::insert_storage_key::run_insert_storage_key;
 use crate::load_real_address::run_load_real_address;

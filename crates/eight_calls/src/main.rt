@@ -1,6 +1,8 @@
 // Makes eight calls on one machine and writes each down in a trail, then tries the trail's edges with what is written
 // down of the last call. It prints a line for each, and the trail's buffer; `second trail` writes the lines that must
 // come.
+#![tactic(auto)]
+
 use crate::machine::{KEY_COUNT, Keys, STORAGE_BYTES, Storage};
 use crate::own_buffers::try_own_buffers;
 use crate::refusals::try_refusals;

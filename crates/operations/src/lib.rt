@@ -1,4 +1,6 @@
 // The operation byte, the first byte of an instruction: document 02, R-5.
+#![tactic(auto)]
+
 ghost use Rattle.std.specs.Prelude.{◌≡◌};
 ghost use Rattle.operations.specs.Operations.{operation_of};
 

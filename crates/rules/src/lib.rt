@@ -1,4 +1,5 @@
 // The types that the rules of document 01 speak of, and their fields. The rules themselves are definitions, in specs/.
+#![tactic(auto)]
 
 mod addresses;
 mod answer;

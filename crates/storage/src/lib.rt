@@ -2,6 +2,7 @@
 //
 // Every function that reads or stores, here and above, is lent the keys to change: an access records itself in them
 // (document 02, R-13).
+#![tactic(auto)]
 
 mod answers;
 mod fetches;

@@ -1,5 +1,6 @@
 // The instructions that work on storage keys: SET STORAGE KEY (08), INSERT STORAGE KEY (09) and RESET REFERENCE BIT
 // (B213), and the way to a page's entry, swap word and key block, which they share.
+#![tactic(auto)]
 
 mod isk;
 mod keys;

@@ -1,5 +1,7 @@
 // Makes the calls that its input gives, through the proved library, and prints a line for each: docs/VECTORS.md. With
 // an argument it takes more than 4 MiB of storage, on a stack of 32 MiB.
+#![tactic(auto)]
+
 use crate::state::{State, Step, Trouble};
 
 mod bytes;

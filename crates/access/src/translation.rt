@@ -12,7 +12,7 @@ use crate::walks::Walked;
 use rules::{Ending, Exception, Format, PageSize, SegmentSize, TableFault};
 use storage::Stepped;
 
-#[derive(Drop)]
+#[derive(Clone, Copy)]
 pub enum Formatted {
     Of(Format),
     Unknown,

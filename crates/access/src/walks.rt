@@ -7,7 +7,7 @@ use rules::{Ending, Exception, TableFault};
 use storage::Stepped;
 
 // Each with the count of references; what is wrong, with the address of the entry that it is about.
-#[derive(Drop)]
+#[derive(Clone, Copy)]
 pub enum Walked {
     Found(u32, u32),
     Fault(TableFault, u32, u32),

@@ -8,7 +8,7 @@ use rules::Guest;
 use storage::Stepped;
 
 // As many words as were wanted, or the ending that the last one gave; the count is of all of them.
-#[derive(Drop)]
+#[derive(Clone, Copy)]
 pub struct Gathered {
     pub last: Stepped,
     pub words: [u32; 16],

@@ -27,7 +27,7 @@ const NOWHERE: u32 = 0xFFFFFFFF;
 // Above every address: the place of the key with number 0.
 pub(crate) const KEY_0: u32 = 0x80000000;
 
-#[derive(Drop)]
+#[derive(Clone, Copy)]
 pub(crate) struct Edge {
     pub(crate) size: usize,
     pub(crate) first: u16,

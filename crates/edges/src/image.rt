@@ -5,7 +5,7 @@ use crate::places::{
     ECBLOK, INSTRUCTION, LAST_REGISTER, MICCREG, MICVPSW, VIRTUAL_PSW, virtual_register,
 };
 
-#[derive(Drop)]
+#[derive(Clone, Copy)]
 pub(crate) enum Part {
     Storage,
     Keys,

@@ -74,7 +74,7 @@ fn run_real_2k(storage: &mut Storage, keys: &mut Keys) {
 }
 
 // A virtual format: virtual control register 0, the places of its entries, and what an edge puts there.
-#[derive(Drop)]
+#[derive(Clone, Copy)]
 struct VirtualFormat {
     register_0: u32,
     segment_entry: u32,

@@ -25,7 +25,7 @@ pub(crate) type Storage = [u8; STORAGE_BYTES];
 pub(crate) type Keys = [u8; KEY_COUNT];
 
 // Edges that stand in one function.
-#[derive(Drop)]
+#[derive(Clone, Copy)]
 pub(crate) enum Group {
     StoreControl,
     SetSystemMask,

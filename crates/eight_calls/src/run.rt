@@ -14,7 +14,7 @@ pub(crate) type Buffer = [u8; BUFFER_BYTES];
 pub(crate) const UNUSED: u8 = 0xEE;
 
 // What is written down of a call, and the number of records held after that.
-#[derive(Drop)]
+#[derive(Clone, Copy)]
 struct Made {
     entry: Entry,
     held: u32,

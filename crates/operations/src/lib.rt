@@ -9,7 +9,7 @@ use crate::entries::entry;
 mod entries;
 
 // What the operation byte says of an instruction: its length in bytes, and whether an assisted one can begin so.
-#[derive(Drop)]
+#[derive(Clone, Copy)]
 pub struct Operation {
     pub length: u32,
     pub assisted: bool,

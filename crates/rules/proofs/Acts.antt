@@ -1,7 +1,7 @@
 -- What a guest whose part is p does, beside one whose part is q, to each key by itself: by an entry, by a write, and by
 -- a whole attempt.
 use Rattle.std.proofs.Common.{◌≡◌, ℕ, ◌/◌, Bool, true, false, cond, ◌&&◌, ◌||◌, eqb, ltb, List, [], ◌∷◌, map, length, get_or, sym, refl, ap, ◌∙◌, subst, length-set, eqb-true}
-use mathlib.Core.Bool.{or_assoc, or_false}
+use mathlib.Core.Bool.{or_assoc, or-false}
 use Rattle.rules.specs.Machine.{Machine, addresses}
 use Rattle.rules.specs.References.{Reference, fetched, consulted, wrote, key_set}
 use Rattle.rules.specs.Recording.{referred, changed, noted_all}
@@ -125,7 +125,7 @@ module _ (p q : Part) (wp : WholeBlocks p) (wq : WholeBlocks q) (size k : ℕ) w
     apart = λ g x. refl;
     keeps = λ g x y l. l;
     both = λ x y l. l;
-    reference_bit = λ l g x. sym (or_false (is_referred x));
+    reference_bit = λ l g x. sym (or-false (is_referred x));
   }
 
   acts_then : (t u : Bool) (e f : ℕ → ℕ) → Acts p q size k t e → Acts p q size k u f
@@ -147,7 +147,7 @@ module _ (p q : Part) (wp : WholeBlocks p) (wq : WholeBlocks q) (size k : ℕ) w
     keeps = λ g x y l. subst (SameButReference x) (sym (outside g y)) l;
     both = both;
     reference_bit = λ l g x.
-        ap is_referred (outside g x) ∙ sym (or_false (is_referred x)) ∙ ap (λ z. is_referred x || z) (sym (untouched g));
+        ap is_referred (outside g x) ∙ sym (or-false (is_referred x)) ∙ ap (λ z. is_referred x || z) (sym (untouched g));
   }
 
   clear_blocks : (at : List ℕ) → All (λ a. q.bytes a → ⊥) at → All (λ a. q.keys (a / 2048) → ⊥) at

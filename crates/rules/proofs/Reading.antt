@@ -1,7 +1,7 @@
 -- What a reading program records: its entries are fetches and keys consulted, so of the keys it changes reference bits
 -- alone, those of the blocks that its entries touch.
 use Rattle.std.proofs.Common.{◌≡◌, ℕ, ◌<◌, Bool, true, false, ◌||◌, ltb, List, [], ◌∷◌, length, get_or, sym, ap, ◌∙◌, subst, lt-ltb}
-use mathlib.Core.Bool.{or_assoc, or_false}
+use mathlib.Core.Bool.{or_assoc, or-false}
 use Rattle.rules.specs.Endings.{Ending}
 use Rattle.rules.specs.Machine.{Machine, addresses, has, value}
 use Rattle.rules.specs.References.{seen_as, Reference, fetched, consulted, wrote, key_set}
@@ -48,7 +48,7 @@ module _ (size k : ℕ) where
 
   bit_all : (rs : List Reference) (x : ℕ) → ltb k size ≡ true → All Reads rs
       → is_referred (on_all size k rs x) ≡ (is_referred x || touched k rs)
-  bit_all [] x t h = sym (or_false (is_referred x))
+  bit_all [] x t h = sym (or-false (is_referred x))
   bit_all (fetched a n ∷ rs) x t h =
       let r = fetched a n in
       bit_all rs (on_key size k r x) t h.1

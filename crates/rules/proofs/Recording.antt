@@ -1,6 +1,6 @@
 -- What recording does to each key by itself.
 use Rattle.std.proofs.Common.{◌≡◌, ℕ, ◌+◌, ◌/◌, ◌%◌, Bool, true, false, cond, ◌&&◌, ◌||◌, eqb, ltb, List, [], ◌∷◌, ◌++◌, length, get_or, set, sym, refl, ap, ◌∙◌, arith, length-set, eq-eqb, eqb-true}
-use mathlib.Core.Bool.{or_assoc, or_false, or-true}
+use mathlib.Core.Bool.{or_assoc, or-false, or-true}
 use Rattle.rules.specs.Machine.{Machine, addresses}
 use Rattle.rules.specs.References.{
   Reference,
@@ -155,7 +155,7 @@ same_fetched size k at x y h =
 
 pub bit_fetched : (size k : ℕ) (at : List ℕ) (x : ℕ) → ltb k size ≡ true
     → is_referred (on referred size k at x) ≡ (is_referred x || any_in k at)
-bit_fetched size k [] x l = sym (or_false (is_referred x))
+bit_fetched size k [] x l = sym (or-false (is_referred x))
 bit_fetched size k (a ∷ at) x l =
     bit_fetched size k at (cond (eqb (a / 2048) k && ltb k size) (referred x) x) l
     ∙ ap (λ b. b || any_in k at)
@@ -164,7 +164,7 @@ bit_fetched size k (a ∷ at) x l =
   where
     go : (b : Bool) → is_referred (cond (b && true) (referred x) x) ≡ (is_referred x || b)
     go true = eq-eqb (referred x / 4 % 2) 1 (omega arith) ∙ sym (or-true (is_referred x))
-    go false = sym (or_false (is_referred x))
+    go false = sym (or-false (is_referred x))
 
 -- ---- a list of entries
 

@@ -4,7 +4,7 @@ ghost use Rattle.rules.specs.Call.{operation_byte, operation, r1, r2, immediate,
 
 use crate::{Ending, Exception, Guest, RecordChange};
 
-#[derive(Drop)]
+#[derive(Clone, Copy)]
 pub struct Call {
     pub guest: Guest,
     pub first: u16,

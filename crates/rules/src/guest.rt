@@ -4,7 +4,7 @@ ghost use Rattle.rules.specs.Guest.{instruction_address, dat_on, psw_key, extend
 ghost use Rattle.rules.specs.Guest.{advance, register, base, effective, indexed, protects_low, assists_control};
 ghost use Rattle.rules.specs.Guest.{micblok, with_byte, with_address, with_code};
 
-#[derive(Drop)]
+#[derive(Clone, Copy)]
 pub struct Guest {
     pub psw: u64,
     pub general: [u32; 16],

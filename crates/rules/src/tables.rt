@@ -2,20 +2,20 @@
 ghost use Rattle.std.specs.Prelude.{◌≡◌, ◌≤◌, ◌⊎◌};
 ghost use Rattle.rules.specs.Translation.{page_bytes, segment_bytes};
 
-#[derive(Drop)]
+#[derive(Clone, Copy)]
 pub enum PageSize {
     TwoK,
     FourK,
 }
 
-#[derive(Drop)]
+#[derive(Clone, Copy)]
 pub enum SegmentSize {
     SixtyFourK,
     OneM,
 }
 
 // The four formats of dynamic address translation.
-#[derive(Drop)]
+#[derive(Clone, Copy)]
 pub struct Format {
     pub page: PageSize,
     pub segment: SegmentSize,
@@ -44,7 +44,7 @@ impl Format {
 }
 
 // What can be wrong with tables that are walked, in the order of the tests.
-#[derive(Drop)]
+#[derive(Clone, Copy)]
 pub enum TableFault {
     SegmentTableLength,
     SegmentInvalid,
@@ -55,7 +55,7 @@ pub enum TableFault {
 }
 
 // On the way from MICRSEG to a page: what ending 3 carries where one of these is not in storage.
-#[derive(Drop)]
+#[derive(Clone, Copy)]
 pub struct FieldNumbers {
     // MICRSEG itself
     pub table: u32,
@@ -70,7 +70,7 @@ pub struct FieldNumbers {
 
 // A page that was found: its swap word and where that stands; whether the page is invalid; the block of the address,
 // where it is valid; and whether the address is in the upper block of its page.
-#[derive(Drop)]
+#[derive(Clone, Copy)]
 pub struct FoundPage {
     pub place: u32,
     pub swap: u32,

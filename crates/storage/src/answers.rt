@@ -6,7 +6,7 @@ use crate::steps::Stepped;
 use rules::{Ending, RecordChange};
 
 // Completion, with what it changes in the guest's record, or another ending; each with the count of references.
-#[derive(Drop)]
+#[derive(Clone, Copy)]
 pub enum Concluded {
     Complete(RecordChange, u32),
     Ended(Ending, u32),

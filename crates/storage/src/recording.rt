@@ -7,7 +7,7 @@ ghost use Rattle.storage.specs.Recording.{marking, across};
 
 const BLOCK: u32 = 2048;
 
-#[derive(Drop)]
+#[derive(Clone, Copy)]
 pub enum Access {
     Fetch,
     Store,

@@ -9,7 +9,7 @@ use crate::items::{Item, Width};
 use crate::recording::is_across;
 use rules::{Ending, Exception};
 
-#[derive(Drop)]
+#[derive(Clone, Copy)]
 pub enum Stepped {
     Value(u32, u32),
     Stopped(Ending, u32),

@@ -9,7 +9,7 @@ use rules::{Ending, FieldNumbers, Format, FoundPage, RecordChange};
 use storage::{Concluded, Stepped};
 
 // The page, or the ending, and the count of references.
-#[derive(Drop)]
+#[derive(Clone, Copy)]
 pub(crate) enum Found {
     Page(FoundPage, u32),
     Stopped(Ending, u32),

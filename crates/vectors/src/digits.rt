@@ -1,7 +1,7 @@
 // Fields of a line: a space, then a number in lower-case hexadecimal digits.
 ghost use Rattle.std.specs.Prelude.{◌≤◌};
 
-#[derive(Drop)]
+#[derive(Clone, Copy)]
 pub(crate) enum Number {
     Value(u32),
     Bad,

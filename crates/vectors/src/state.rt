@@ -1,6 +1,6 @@
 // What is known between two lines of the input, and what a line can lead to.
 
-#[derive(Drop)]
+#[derive(Clone, Copy)]
 pub(crate) struct State {
     // lines read, and the first character of the last
     pub(crate) lines: u64,
@@ -17,7 +17,7 @@ pub(crate) struct State {
     pub(crate) has_record: bool,
 }
 
-#[derive(Drop)]
+#[derive(Clone, Copy)]
 pub(crate) enum Trouble {
     Kind,
     Ends,
@@ -30,7 +30,7 @@ pub(crate) enum Trouble {
     After,
 }
 
-#[derive(Drop)]
+#[derive(Clone, Copy)]
 pub(crate) enum Step {
     Next(State),
     Finished,

@@ -1,6 +1,6 @@
 -- The attempt: how it can end, and at most so many references as the longest list of its instruction.
 use Rattle.std.proofs.Common.{◌≡◌, ℕ, Bool, true, false, eqb, length, sym, refl, ap, ◌∙◌, subst, true≢false, eqb-true}
-use mathlib.Core.Bool.{or_false}
+use mathlib.Core.Bool.{or-false}
 use borrow.Author.Tests.{not-true, not-false}
 use Rattle.operations.proofs.Junctions.{neither_true}
 use Rattle.rules.specs.Machine.{Machine}
@@ -84,7 +84,7 @@ module _ (c : Call) (h : assisted_code (operation c) ≡ true) where
                 at 0xb1 (load_real_address c) (load_real_address-fits c),
                 λ e7.
                     at 0xb213 (reset_reference_bit c) (reset_reference_bit-fits c)
-                    (simp (e1, e2, e3, e4, e5, e6, e7, or_false) at h),
+                    (simp (e1, e2, e3, e4, e5, e6, e7, or-false) at h),
               ),
             ),
           ),

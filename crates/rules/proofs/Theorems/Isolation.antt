@@ -2,7 +2,7 @@
 -- may put, the third agrees with the other's, but for reference bits; so each call reads the same as alone (locality),
 -- and does the same.
 use Rattle.std.proofs.Common.{◌≡◌, ℕ, Bool, true, false, ◌||◌, ltb, List, [], ◌∷◌, map, length, get_or, sym, refl, ap, ◌∙◌, subst, lt-ltb}
-use mathlib.Core.Bool.{or_assoc, or_false}
+use mathlib.Core.Bool.{or_assoc, or-false}
 use Rattle.rules.specs.Machine.{Machine}
 use Rattle.rules.specs.Writes.{entry}
 use Rattle.rules.specs.References.{
@@ -147,7 +147,7 @@ module _ (p q : Part) (wp : WholeBlocks p) (wq : WholeBlocks q) where
   bit_alone : (m : Machine) (us : List Call) → All (Keeps p q) (references m us) → (k : ℕ) → (p.keys k → ⊥)
       → ltb k (length m.keys) ≡ true
       → is_referred (get_or (left m us).keys k 0) ≡ (is_referred (get_or m.keys k 0) || touched k (references m us))
-  bit_alone m [] h k n l = sym (or_false (is_referred (get_or m.keys k 0)))
+  bit_alone m [] h k n l = sym (or-false (is_referred (get_or m.keys k 0)))
   bit_alone m (x ∷ us) h k n l =
       let rs = (attempt m x).references in
       let m' = (attempt m x).after in

@@ -1,6 +1,6 @@
 -- The operation byte by the table, and the operation code: both decide alike.
 use Rattle.std.proofs.Common.{◌≡◌, ℕ, ◌/◌, ◌%◌, ◌<◌, Bool, true, false, cond, not, ◌&&◌, ◌||◌, eqb, sym, refl, ap, ◌∙◌, subst, ⊎_elim, arith, ne_eqb, eqb-true}
-use mathlib.Core.Bool.{and-true, or_false}
+use mathlib.Core.Bool.{and-true, or-false}
 use Rattle.operations.specs.Operations.{length_of, begins_assisted}
 use Rattle.operations.proofs.Junctions.{either_true}
 use Rattle.rules.specs.Call.{operation_byte}
@@ -32,7 +32,7 @@ module _ (first byte : ℕ) (e : byte ≡ first / 256 % 256) where
         no 0xad (omega arith),
         no 0xb1 (omega arith),
         no 0xb6 (omega arith),
-        or_false,
+        or-false,
       ))
   assisted false t =
       let no : eqb byte 0xb213 ≡ false = ne_eqb byte 0xb213 (λ h. omega arith) in

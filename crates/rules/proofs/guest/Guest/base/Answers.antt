@@ -1,18 +1,14 @@
 use Rattle.std.proofs.Common.{◌≡◌, ℕ, zero, suc, refl, ap, ◌∙◌, rules}
 use Rattle.rules.specs.Bits.{word}
 use Rattle.rules.specs.Guest.{Guest, register, base}
-use Rattle.rules.proofs.guest.Guest.base.Statement.{statement}
-use Rattle.rules.proofs.guest.Guest.base.Tie as tie
+use Rattle.rules.proofs.guest.Guest.base.Goals as goal
 
 -- a base that is not 0 is its register's bits 8-31
 some-base : (g : Guest) (r : ℕ) → (r ≡ 0 → ⊥) → word 8 31 (register g r) ≡ base g r
 some-base g zero h = absurd (h refl)
 some-base g (suc r) h = refl
 
-returns-2 : tie.Need-returns-2
-returns-2 c =
+pub returns : goal.returns
+returns c =
     let a = c.before.before.args in
-    ap (word 8 31) c.register.ensures ∙ some-base a.self a.r c.before.if1.false
-
-pub base-spec : {M : Type 1} → statement M
-base-spec = tie.close (tie.spec (λ c. search rules) (λ c κs. search rules) returns-2)
+    ap (word 8 31) c.register.ensures ∙ some-base a.self a.r c.before.if-r-eq0.false

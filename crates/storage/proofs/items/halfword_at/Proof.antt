@@ -5,54 +5,43 @@ use Rattle.storage.proofs.Joined.{below, halfword_joined}
 use Rattle.storage.proofs.items.halfword_at.Statement.{statement}
 use Rattle.storage.proofs.items.halfword_at.Tie as tie
 
--- where the left part was read and found, seen from where the right one was read
-abbrev left : tie.After-byte-at2 → tie.After-left
-left c = c.before.before.before
-
-abbrev first : tie.After-left → tie.After-byte-at
-first c = c.before.before
-
-second : (c : tie.After-byte-at2)
-    → let a = (first (left c)).before.before.args in
-    found c.byte-at2.result ≡ item_at a.storage.now (a.at ⊕ 1) 1
-second c = simp c.before.sum.ensures at c.byte-at2.ensures.0
+second : (c : tie.After-byte_at-2)
+    → let a = c.args in
+    found c.byte_at-2.result ≡ item_at a.storage.now (a.at ⊕ 1) 1
+second c = simp c.sum.ensures at c.byte_at-2.ensures.0
 
 -- both were found: their number fits
-small : (c : tie.After-right)
-    → let right = c.before.before in (left right).left.given.0.0 * 256 + c.right.given.0.0 < 65536
+small : (c : tie.In-Of-byte_at)
+    → c.in-Of.left * 256 + c.in-Of-byte_at.right < 65536
 small c =
-    let right = c.before.before in
-    let l = below (left right).left.given.1 (first (left right)).byte_at.ensures.1 in
-    let r = below c.right.given.1 right.byte-at2.ensures.1 in
+    let l = below c.in-Of.is c.byte_at.ensures.1 in
+    let r = below c.in-Of-byte_at.is c.byte_at-2.ensures.1 in
     omega arith
 
-returns : tie.Need-returns
+returns : tie.Need-returns-in_default
 returns c =
-    let read = c.before.before in
-    (simp (halfword_joined, ← read.byte_at.ensures.0, c.enum_told.given.1), omega arith)
+    (simp (halfword_joined, ← c.byte_at.ensures.0, c.in_default.is), omega arith)
 
-returns-2 : tie.Need-returns-2
+returns-2 : tie.Need-returns-in_default-byte_at
 returns-2 c =
-    let right = c.before.before in
-    let l = (first (left right)).byte_at.ensures.0 in
-    (simp (halfword_joined, ← l, (left right).left.given.1, ← second right, c.enum-told2.given.1), omega arith)
+    let l = c.byte_at.ensures.0 in
+    (simp (halfword_joined, ← l, c.in-Of.is, ← second c.before, c.in_default-byte_at.is), omega arith)
 
-mul-t7 : tie.Need-overflow-mul-t7
-mul-t7 c = omega (arith, small c.before)
+mul-t7 : tie.Need-overflow_mul-result
+mul-t7 c = omega (arith, small c)
 
-add-t8 : tie.Need-overflow-add-t8
-add-t8 c = omega (arith, small c.before)
+add-t8 : tie.Need-overflow_add-result
+add-t8 c = omega (arith, small c)
 
-returns-3 : tie.Need-returns-3
+returns-3 : tie.Need-returns
 returns-3 c =
-    let right = c.before.before.before in
-    let l = (first (left right)).byte_at.ensures.0 in (
-      simp (halfword_joined, ← l, (left right).left.given.1, ← second right, c.before.right.given.1),
-      small c.before,
+    let l = c.byte_at.ensures.0 in (
+      simp (halfword_joined, ← l, c.in-Of.is, ← second c.before, c.in-Of-byte_at.is),
+      small c,
     )
 
-pub halfword-at-spec : {M : Type 1} → statement M
-halfword-at-spec =
+pub halfword_at_spec : {M : Type 1} → statement M
+halfword_at_spec =
     tie.close
     (tie.spec
     (λ c κs. search rules)

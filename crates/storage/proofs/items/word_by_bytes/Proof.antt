@@ -5,52 +5,41 @@ use Rattle.storage.proofs.Joined.{below, word_joined}
 use Rattle.storage.proofs.items.word_by_bytes.Statement.{statement}
 use Rattle.storage.proofs.items.word_by_bytes.Tie as tie
 
--- where the left part was read and found, seen from where the right one was read
-abbrev left : tie.After-halfword-at2 → tie.After-left
-left c = c.before.before.before
-
-abbrev first : tie.After-left → tie.After-halfword-at
-first c = c.before.before
-
-second : (c : tie.After-halfword-at2)
-    → let a = (first (left c)).before.before.args in
-    found c.halfword-at2.result ≡ item_at a.storage.now (a.at ⊕ 2) 2
-second c = simp c.before.sum.ensures at c.halfword-at2.ensures.0
+second : (c : tie.After-halfword_at-2)
+    → let a = c.args in
+    found c.halfword_at-2.result ≡ item_at a.storage.now (a.at ⊕ 2) 2
+second c = simp c.sum.ensures at c.halfword_at-2.ensures.0
 
 -- both were found: their number fits
-small : (c : tie.After-right)
-    → let right = c.before.before in (left right).left.given.0.0 * 65536 + c.right.given.0.0 < 2 ^ 32
+small : (c : tie.In-Of-halfword_at)
+    → c.in-Of.left * 65536 + c.in-Of-halfword_at.right < 2 ^ 32
 small c =
-    let right = c.before.before in
-    let l = below (left right).left.given.1 (first (left right)).halfword-at.ensures.1 in
-    let r = below c.right.given.1 right.halfword-at2.ensures.1 in
+    let l = below c.in-Of.is c.halfword_at.ensures.1 in
+    let r = below c.in-Of-halfword_at.is c.halfword_at-2.ensures.1 in
     omega arith
 
-returns : tie.Need-returns
+returns : tie.Need-returns-in_default
 returns c =
-    let read = c.before.before in
-    simp (word_joined, ← read.halfword-at.ensures.0, c.enum_told.given.1)
+    simp (word_joined, ← c.halfword_at.ensures.0, c.in_default.is)
 
-returns-2 : tie.Need-returns-2
+returns-2 : tie.Need-returns-in_default-halfword_at
 returns-2 c =
-    let right = c.before.before in
-    let l = (first (left right)).halfword-at.ensures.0 in
-    simp (word_joined, ← l, (left right).left.given.1, ← second right, c.enum-told2.given.1)
+    let l = c.halfword_at.ensures.0 in
+    simp (word_joined, ← l, c.in-Of.is, ← second c.before, c.in_default-halfword_at.is)
 
-mul-t7 : tie.Need-overflow-mul-t7
-mul-t7 c = omega (arith, small c.before)
+mul-t7 : tie.Need-overflow_mul-result
+mul-t7 c = omega (arith, small c)
 
-add-t8 : tie.Need-overflow-add-t8
-add-t8 c = omega (arith, small c.before)
+add-t8 : tie.Need-overflow_add-result
+add-t8 c = omega (arith, small c)
 
-returns-3 : tie.Need-returns-3
+returns-3 : tie.Need-returns
 returns-3 c =
-    let right = c.before.before.before in
-    let l = (first (left right)).halfword-at.ensures.0 in
-    simp (word_joined, ← l, (left right).left.given.1, ← second right, c.before.right.given.1)
+    let l = c.halfword_at.ensures.0 in
+    simp (word_joined, ← l, c.in-Of.is, ← second c.before, c.in-Of-halfword_at.is)
 
-pub word-by-bytes-spec : {M : Type 1} → statement M
-word-by-bytes-spec =
+pub word_by_bytes_spec : {M : Type 1} → statement M
+word_by_bytes_spec =
     tie.close
     (tie.spec
     (λ c κs. search rules)

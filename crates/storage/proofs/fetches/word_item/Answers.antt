@@ -1,0 +1,6 @@
+use Rattle.std.proofs.Common.{sym, ◌∙◌, rules}
+use Rattle.storage.proofs.fetches.word_item.Goals as goal
+
+pub word_within-requires : goal.word_within-requires
+word_within-requires c =
+    sym c.is_across.ensures ∙ c.if-is_across.false

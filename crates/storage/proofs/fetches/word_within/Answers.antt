@@ -1,0 +1,26 @@
+use Rattle.std.proofs.Common.{sym, ap, ◌∙◌, arith, rules}
+use Rattle.storage.specs.Items.{found}
+use Rattle.storage.specs.Recording.{Fetch}
+use Rattle.storage.proofs.Fetched.{fetches, misses}
+use Rattle.storage.proofs.Recorded.{within, one_block}
+use Rattle.storage.proofs.fetches.word_within.Goals as goal
+
+pub word_by_last_byte-requires : goal.word_by_last_byte-requires
+word_by_last_byte-requires c =
+    let inside = within c.args.at c.requires in
+    let below = inside.0 in
+    let ends = inside.1 in
+    omega arith
+
+pub returns-in_default : goal.returns-in_default
+returns-in_default c =
+    let a = c.args in
+    λ e. misses a.storage.now a.keys.now a.at 4 e
+    (ap found (sym c.in_default.is) ∙ c.word_by_last_byte.ensures)
+
+pub returns : goal.returns
+returns c =
+    let a = c.args in
+    λ e. fetches a.storage.now a.keys.now a.at 4 e _
+    (ap found (sym c.in-Of.is) ∙ c.word_by_last_byte.ensures)
+    (one_block a.at c.requires Fetch a.keys.now c.record_byte.ensures)

@@ -1,0 +1,6 @@
+use Rattle.std.proofs.Common.{rules}
+use Rattle.storage.proofs.stores.store_across.Goals as goal
+
+pub returns : goal.returns
+returns c =
+    simp (c.put_bytes.ensures, c.record_word.ensures)

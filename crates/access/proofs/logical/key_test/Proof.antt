@@ -13,36 +13,34 @@ abbrev entry : List ℕ → tie.Start → Machine
 entry s c = machine s c.args.keys.now
 
 abbrev stage : tie.Start → Steps ℕ
-stage c = key_test (passes_for c.args.store) c.args.psw-key c.args.real
+stage c = key_test (passes_for c.args.store) c.args.psw_key c.args.real
 
-abbrev consulted : (s : List ℕ) → tie.After-consult-key → Asked (entry s) stage
+abbrev consulted : (s : List ℕ) → tie.After-consult_key-consulted → Asked (entry s) stage
 unfolding key_test
 consulted s c =
-    let start = c.before.before.before in
-    asks start _ _ (begin (entry s start) (stage start)) c.consult-key.result s c.consult-key.new.0
-    (fresh _ _ (c.consult-key.ensures s))
+    asks c.before.before.before _ _ (begin (entry s c.before.before.before) (stage c.before.before.before)) c.consult_key-consulted.result s c.consult_key-consulted.new.keys
+    (fresh _ _ (c.consult_key-consulted.ensures s))
 
 abbrev protected : (s : List ℕ) → tie.After-passes → Tested (entry s) stage
 unfolding key_test consulted
 protected s c =
-    let found = c.before.before in
-    let here = given (consulted s found.before.before.before.before) found.consulted.given.1 in
+    let here = given (consulted s c.before.before.before.before) c.in-Value.is in
     tests here.start _ _ _ here.runs (not c.passes.result) (ap not c.passes.ensures)
 
-returns : tie.Need-returns
+returns : tie.Need-returns-in_default
 unfolding key_test consulted
-returns c = λ s. handed (consulted s c.before.before.before.before) c.enum_told.given.1
+returns c = λ s. handed (consulted s c.before.before.before) c.in_default.is
 
-returns-2 : tie.Need-returns-2
+returns-2 : tie.Need-returns-then-passes
 unfolding key_test consulted protected
-returns-2 c = λ s. settles _ (passed (protected s c.before) (ap not c.if1.true)).runs
+returns-2 c = λ s. settles _ (passed (protected s c.before) (ap not c.if-passes.true)).runs
 
-returns-3 : tie.Need-returns-3
+returns-3 : tie.Need-returns
 unfolding key_test consulted protected
-returns-3 c = λ s. stopped (protected s c.before) (ap not c.if1.false)
+returns-3 c = λ s. stopped (protected s c.before) (ap not c.if-passes.false)
 
-pub key-test-spec : {M : Type 1} → statement M
-key-test-spec =
+pub key_test_spec : {M : Type 1} → statement M
+key_test_spec =
     tie.close
     (tie.spec
     (λ c κs. search rules)

@@ -14,28 +14,25 @@ entry c = machine c.args.storage.now c.args.keys.now
 abbrev stage : tie.Start → Steps ℕ
 stage c = logical_fetch c.args.guest c.args.at 2
 
-abbrev tested : tie.After-fetch-access → Asked entry stage
+abbrev tested : tie.After-fetch_access-tested → Asked entry stage
 unfolding logical_fetch
 tested c =
-    let start = c.before.before.before.before in
-    asks start _ _ (begin (entry start) (stage start)) c.fetch-access.result start.args.storage.now
-    c.fetch-access.new.1.0 (fresh _ _ c.fetch-access.ensures)
+    asks c.before.before.before.before _ _ (begin (entry c.before.before.before.before) (stage c.before.before.before.before)) c.fetch_access-tested.result c.args.storage.now
+    c.fetch_access-tested.new.keys (fresh _ _ c.fetch_access-tested.ensures)
 
-returns : tie.Need-returns
+returns : tie.Need-returns-in_default
 unfolding logical_fetch tested
-returns c = handed (tested c.before.before.before.before) c.enum_told.given.1
+returns c = handed (tested c.before.before.before) c.in_default.is
 
-returns-2 : tie.Need-returns-2
+returns-2 : tie.Need-returns
 unfolding logical_fetch tested
 returns-2 c =
-    let call = c.before.before.before in
-    let found = call.before.before.before in
-    let here = given (tested found.before.before.before.before) found.tested.given.1 in
-    last_after _ here.runs call.fetch.result c.after.result here.start.args.storage.now
-    call.fetch.new.1.0 c.after.ensures call.fetch.ensures
+    let here = given (tested c.before.before.before.before.before.before.before.before) c.in-Value.is in
+    last_after _ here.runs c.fetch.result c.after.result here.start.args.storage.now
+    c.fetch.new.keys c.after.ensures c.fetch.ensures
 
-pub logical-halfword-spec : {M : Type 1} → statement M
-logical-halfword-spec =
+pub logical_halfword_spec : {M : Type 1} → statement M
+logical_halfword_spec =
     tie.close
     (tie.spec
     (λ c κs. search rules)

@@ -15,26 +15,23 @@ abbrev stage : tie.Start → Steps ℕ
 stage c = store_test c.args.guest c.args.at
 
 -- low-address protection
-abbrev low : tie.After-protects-low → Tested entry stage
+abbrev low : tie.After-protects_low → Tested entry stage
 unfolding store_test
 low c =
-    let start = c.before.before.before in
-    tests start _ _ _ (begin (entry start) (stage start)) c.protects-low.result c.protects-low.ensures
+    tests c.before.before.before _ _ _ (begin (entry c.before.before.before) (stage c.before.before.before)) c.protects_low.result c.protects_low.ensures
 
-returns : tie.Need-returns
+returns : tie.Need-returns-then-protects_low
 unfolding store_test low
-returns c = stopped (low c.before) c.if1.true
+returns c = stopped (low c.before) c.if-protects_low.true
 
-returns-2 : tie.Need-returns-2
+returns-2 : tie.Need-returns
 unfolding store_test low
 returns-2 c =
-    let made = c.before.before in
-    let on = made.before.before in
-    let here = passed (low on.before) on.if1.false in
-    fresh _ _ made.IsStore-access.ensures ∙ sym here.runs.so
+    let here = passed (low c.before.before.before.before.before) c.if-protects_low.false in
+    fresh _ _ c.store_access.ensures ∙ sym here.runs.so
 
-pub store-test-spec : {M : Type 1} → statement M
-store-test-spec =
+pub store_test_spec : {M : Type 1} → statement M
+store_test_spec =
     tie.close
     (tie.spec
     (λ c κs. search rules)

@@ -14,25 +14,23 @@ module _ (p : Steps ℕ) (m : Machine) (s : List ℕ) where
   entry c = m
 
   abbrev stage : tie.Start → Steps ℕ
-  stage c = key_tested p (passes_for c.args.store) c.args.psw-key
+  stage c = key_tested p (passes_for c.args.store) c.args.psw_key
 
   abbrev found : (c : tie.Start) → told c.args.walked s c.args.keys.now ≡ seen p m → Asked entry stage
   found c f = asks c _ _ (begin m (stage c)) c.args.walked s c.args.keys.now (fresh p m f)
 
-returns : tie.Need-returns
-returns c = λ p m s f. handed (found p m s c.before.before.before f) c.enum_told.given.1
+returns : tie.Need-returns-in_default
+returns c = λ p m s f. handed (found p m s c.before.before f) c.in_default.is
 
-returns-2 : tie.Need-returns-2
+returns-2 : tie.Need-returns
 returns-2 c =
-    let test = c.before.before.before in
-    let walked = test.before.before.before in
     λ p m s f.
-    let here = given (found p m s walked.before.before.before f) walked.walked.given.1 in
-    last_after _ here.runs test.key-test.result c.after.result s test.key-test.new.0
-    c.after.ensures (test.key-test.ensures s)
+    let here = given (found p m s c.before.before.before.before.before.before.before f) c.in-Value.is in
+    last_after _ here.runs c.key_test.result c.after.result s c.key_test.new.keys
+    c.after.ensures (c.key_test.ensures s)
 
-pub walked-test-spec : {M : Type 1} → statement M
-walked-test-spec =
+pub walked_test_spec : {M : Type 1} → statement M
+walked_test_spec =
     tie.close
     (tie.spec
     (λ c. search rules)

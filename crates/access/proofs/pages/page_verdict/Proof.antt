@@ -24,38 +24,33 @@ module _ (s ks : List ℕ) (p : Steps ℕ) (m : Machine) where
   abbrev found : (c : tie.Start) → Read c → Reached entry stage
   found c h = reached c (goes p _ (begin m (stage c)) (fresh p m h))
 
-  abbrev valid : (c : tie.Else1) → Read c.before.before → Reached entry stage
+  abbrev valid : (c : tie.Else-is_invalid) → Read c.before.before → Reached entry stage
   unfolding page_verdict
   valid c h =
-      let test = c.before in
-      let here = found test.before h in
-      reached here.start (rejected _ _ _ here.runs (sym test.is-invalid.ensures ∙ c.if1.false))
+      let here = found c.before.before h in
+      reached here.start (rejected _ _ _ here.runs (sym c.is_invalid.ensures ∙ c.if-is_invalid.false))
 
-returns : tie.Need-returns
+returns : tie.Need-returns-then-is_invalid
 unfolding page_verdict
 returns c =
-    let test = c.before in
     λ s ks p m h. settles _
-    (chosen _ _ _ (found s ks p m test.before h).runs (sym test.is-invalid.ensures ∙ c.if1.true))
+    (chosen _ _ _ (found s ks p m c.before.before h).runs (sym c.is_invalid.ensures ∙ c.if-is_invalid.true))
 
-returns-2 : tie.Need-returns-2
+returns-2 : tie.Need-returns-then-is_malformed
 unfolding page_verdict valid
 returns-2 c =
-    let test = c.before in
     λ s ks p m h. settles _
-    (chosen _ _ _ (valid s ks p m test.before h).runs (sym test.is-malformed.ensures ∙ c.if2.true))
+    (chosen _ _ _ (valid s ks p m c.before.before h).runs (sym c.is_malformed.ensures ∙ c.if-is_malformed.true))
 
-returns-3 : tie.Need-returns-3
+returns-3 : tie.Need-returns
 unfolding page_verdict valid
 returns-3 c =
-    let form = c.before in
-    let test = form.before in
-    λ s ks p m h. simp c.real_address_lem.ensures
+    λ s ks p m h. simp c.real_address.ensures
     (settles _
-    (rejected _ _ _ (valid s ks p m test.before h).runs (sym test.is-malformed.ensures ∙ form.if2.false)))
+    (rejected _ _ _ (valid s ks p m c.before.before.before h).runs (sym c.is_malformed.ensures ∙ c.if-is_malformed.false)))
 
-pub page-verdict-spec : {M : Type 1} → statement M
-page-verdict-spec =
+pub page_verdict_spec : {M : Type 1} → statement M
+page_verdict_spec =
     tie.close
     (tie.spec
     (λ c κs. search rules)

@@ -17,34 +17,28 @@ stage c = page_walk (entry_of 2 c.args.missing) c.args.format c.args.segment c.a
 abbrev fetched : tie.After-item → Asked entry stage
 unfolding page_walk
 fetched c =
-    let place = c.before.before in
-    let start = place.before.before.before in
-    let a = start.args in
-    asks start _ _ (begin (entry start) (stage start)) (fetched_as c.item.result a.missing) a.storage.now
-    c.item.new.1.0 (fresh _ _ (simp place.page-entry-at.ensures at (c.item.ensures a.missing)))
+    let a = c.args in
+    asks c.before.before.before.before.before _ _ (begin (entry c.before.before.before.before.before) (stage c.before.before.before.before.before)) (fetched_as c.item.result a.missing) a.storage.now
+    c.item.new.keys (fresh _ _ (simp c.page_entry_at-place.ensures at (c.item.ensures a.missing)))
 
-returns : tie.Need-returns
+returns : tie.Need-returns-in_default
 unfolding page_walk fetched
 returns c =
-    let call = fetched c.before.before.before.before in
-    ended call (ap (λ i. fetched_as i call.start.args.missing) c.enum_told.given.1)
+    let call = fetched c.before.before.before in
+    ended call (ap (λ i. fetched_as i call.start.args.missing) c.in_default.is)
 
-returns-2 : tie.Need-returns-2
+returns-2 : tie.Need-returns
 unfolding page_walk
 returns-2 c =
-    let found = c.before.before in
-    let call = found.before.before.before.before in
-    let place = call.before.before in
-    let start = place.before.before.before in
-    let a = start.args in
+    let a = c.args in
     let s = a.storage.now in
-    let ks = call.item.new.1.0 in
-    simp place.page-entry-at.ensures at
-    (c.page-verdict.ensures s ks _ (entry start)
-    (ap (λ i. told (fetched_as i a.missing) s ks) (sym found.entry.given.1) ∙ call.item.ensures a.missing))
+    let ks = c.item.new.keys in
+    simp c.page_entry_at-place.ensures at
+    (c.page_verdict.ensures s ks _ (entry c.before.before.before.before.before.before.before.before.before)
+    (ap (λ i. told (fetched_as i a.missing) s ks) (sym c.in-Of.is) ∙ c.item.ensures a.missing))
 
-pub page-walk-spec : {M : Type 1} → statement M
-page-walk-spec =
+pub page_walk_spec : {M : Type 1} → statement M
+page_walk_spec =
     tie.close
     (tie.spec
     (λ c κs. search rules)

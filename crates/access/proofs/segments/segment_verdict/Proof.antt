@@ -24,47 +24,44 @@ module _ (s ks : List ℕ) (p : Steps ℕ) (m : Machine) where
   abbrev found : (c : tie.Start) → Read c → Reached entry stage
   found c h = reached c (goes p _ (begin m (stage c)) (fresh p m h))
 
-  abbrev valid : (c : tie.Else1) → Read c.before → Reached entry stage
+  abbrev valid : (c : tie.Else-entry-eq1) → Read c.before → Reached entry stage
   unfolding segment_verdict
   valid c h =
       let here = found c.before h in
-      reached here.start (rejected _ _ _ here.runs (ne_eqb _ _ c.if1.false))
+      reached here.start (rejected _ _ _ here.runs (ne_eqb _ _ c.if-entry-eq1.false))
 
-  abbrev formed : (c : tie.Else2) → Read c.before.before → Reached entry stage
+  abbrev formed : (c : tie.Else-entry-ne0) → Read c.before.before → Reached entry stage
   unfolding segment_verdict valid
   formed c h =
       let here = valid c.before h in
-      reached here.start (rejected _ _ _ here.runs (simp (eq-eqb _ _ c.if2.false)))
+      reached here.start (rejected _ _ _ here.runs (simp (eq-eqb _ _ c.if-entry-ne0.false)))
 
-returns : tie.Need-returns
+returns : tie.Need-returns-then-entry-eq1
 unfolding segment_verdict
-returns c = λ s ks p m h. settles _ (chosen _ _ _ (found s ks p m c.before h).runs (eq-eqb _ _ c.if1.true))
+returns c = λ s ks p m h. settles _ (chosen _ _ _ (found s ks p m c.before h).runs (eq-eqb _ _ c.if-entry-eq1.true))
 
-returns-2 : tie.Need-returns-2
+returns-2 : tie.Need-returns-then-entry-ne0
 unfolding segment_verdict valid
 returns-2 c =
     λ s ks p m h. settles _
-    (chosen _ _ _ (valid s ks p m c.before h).runs (simp (ne_eqb _ _ c.if2.true)))
+    (chosen _ _ _ (valid s ks p m c.before h).runs (simp (ne_eqb _ _ c.if-entry-ne0.true)))
 
 -- step 4
-returns-3 : tie.Need-returns-3
+returns-3 : tie.Need-returns-then-is_beyond_pages
 unfolding segment_verdict valid formed
 returns-3 c =
-    let long = c.before in
-    let test = long.before in
-    λ s ks p m h. simp c.page-entry-at.ensures
+    λ s ks p m h. simp c.page_entry_at-beyond.ensures
     (settles _
-    (chosen _ _ _ (formed s ks p m test.before h).runs (sym test.is-beyond-pages.ensures ∙ long.if3.true)))
+    (chosen _ _ _ (formed s ks p m c.before.before.before h).runs (sym c.is_beyond_pages.ensures ∙ c.if-is_beyond_pages.true)))
 
-returns-4 : tie.Need-returns-4
+returns-4 : tie.Need-returns
 unfolding segment_verdict valid formed
 returns-4 c =
-    let test = c.before in
     λ s ks p m h. settles _
-    (rejected _ _ _ (formed s ks p m test.before h).runs (sym test.is-beyond-pages.ensures ∙ c.if3.false))
+    (rejected _ _ _ (formed s ks p m c.before.before h).runs (sym c.is_beyond_pages.ensures ∙ c.if-is_beyond_pages.false))
 
-pub segment-verdict-spec : {M : Type 1} → statement M
-segment-verdict-spec =
+pub segment_verdict_spec : {M : Type 1} → statement M
+segment_verdict_spec =
     tie.close
     (tie.spec
     returns

@@ -15,59 +15,51 @@ abbrev stage : tie.Start → Steps Walk
 stage c = segment_walk (entry_of 4 c.args.missing) c.args.format c.args.table c.args.at
 
 -- step 2
-returns : tie.Need-returns
+returns : tie.Need-returns-then-is_beyond_segments
 unfolding segment_walk
 returns c =
-    let test = c.before in
-    let start = test.before.before.before.before in
-    simp test.before.segment-entry-at.ensures
+    simp c.segment_entry_at-place.ensures
     (settles _
-    (chosen _ _ _ (begin (entry start) (stage start)) (sym test.is-beyond-segments.ensures ∙ c.if1.true)))
+    (chosen _ _ _ (begin (entry c.before.before.before.before.before) (stage c.before.before.before.before.before)) (sym c.is_beyond_segments.ensures ∙ c.if-is_beyond_segments.true)))
 
-abbrev long : tie.Else1 → Reached entry stage
+abbrev long : tie.Else-is_beyond_segments → Reached entry stage
 unfolding segment_walk
 long c =
-    let test = c.before in
-    let start = test.before.before.before.before in
-    reached start
-    (rejected _ _ _ (begin (entry start) (stage start)) (sym test.is-beyond-segments.ensures ∙ c.if1.false))
+    reached c.before.before.before.before.before
+    (rejected _ _ _ (begin (entry c.before.before.before.before.before) (stage c.before.before.before.before.before)) (sym c.is_beyond_segments.ensures ∙ c.if-is_beyond_segments.false))
 
 -- step 3
 abbrev fetched : tie.After-item → Asked entry stage
 unfolding segment_walk long
 fetched c =
-    let reach = c.before.before in
-    let here = long reach in
+    let here = long c.before.before in
     let a = here.start.args in
     asks here.start _ _ here.runs (fetched_as c.item.result a.missing) a.storage.now
-    c.item.new.1.0
-    (fresh _ _ (simp reach.before.before.segment-entry-at.ensures at (c.item.ensures a.missing)))
+    c.item.new.keys
+    (fresh _ _ (simp c.segment_entry_at-place.ensures at (c.item.ensures a.missing)))
 
-returns-2 : tie.Need-returns-2
+returns-2 : tie.Need-returns-in_default
 unfolding segment_walk long fetched
 returns-2 c =
-    let call = fetched c.before.before.before.before in
-    ended call (ap (λ i. fetched_as i call.start.args.missing) c.enum_told.given.1)
+    let call = fetched c.before.before.before in
+    ended call (ap (λ i. fetched_as i call.start.args.missing) c.in_default.is)
 
 -- steps 3 and 4
-returns-3 : tie.Need-returns-3
+returns-3 : tie.Need-returns
 unfolding segment_walk long
 returns-3 c =
-    let found = c.before.before in
-    let call = found.before.before.before.before in
-    let reach = call.before.before in
-    let here = long reach in
+    let here = long c.before.before.before.before.before.before in
     let a = here.start.args in
     let s = a.storage.now in
-    let ks = call.item.new.1.0 in
+    let ks = c.item.new.keys in
     fresh _ _
-    (simp reach.before.before.segment-entry-at.ensures at
-    (c.segment-verdict.ensures s ks _ (entry here.start)
-    (ap (λ i. told (fetched_as i a.missing) s ks) (sym found.entry.given.1) ∙ call.item.ensures a.missing)))
+    (simp c.segment_entry_at-place.ensures at
+    (c.segment_verdict.ensures s ks _ (entry here.start)
+    (ap (λ i. told (fetched_as i a.missing) s ks) (sym c.in-Of.is) ∙ c.item.ensures a.missing)))
     ∙ sym here.runs.so
 
-pub segment-walk-spec : {M : Type 1} → statement M
-segment-walk-spec =
+pub segment_walk_spec : {M : Type 1} → statement M
+segment_walk_spec =
     tie.close
     (tie.spec
     (λ c κs. search rules)

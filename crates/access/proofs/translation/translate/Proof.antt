@@ -18,66 +18,57 @@ entry c = machine c.args.storage.now c.args.keys.now
 abbrev stage : tie.Start → Steps ℕ
 stage c = translate c.args.cr0 c.args.cr1 c.args.at
 
-abbrev start : tie.After-format-of → tie.Start
-start c = c.before.before.before
-
 -- step 1: the format
 abbrev unknown : Ending
 unknown = Interruption TranslationSpecification
 
-returns : tie.Need-returns
+returns : tie.Need-returns-in_default
 unfolding translate
 returns c =
-    let call = c.before.before in
-    let m = entry (start call) in
-    unformed unknown _ _ (begin m (stage (start call))) call.format-of.result (call.format-of.ensures unknown m)
-    c.enum_told.given.1
+    let m = entry c.before.before.before.before in
+    unformed unknown _ _ (begin m (stage c.before.before.before.before)) c.format_of.result (c.format_of.ensures unknown m)
+    c.in_default.is
 
-abbrev known : tie.After-known-told → Reached entry stage
+abbrev known : tie.In-Of → Reached entry stage
 unfolding translate table_walk
 known c =
-    let call = c.before.before.before in
-    let m = entry (start call) in
-    reached (start call)
+    let m = entry c.before.before.before.before in
+    reached c.before.before.before.before
     (in_halves _ _ _
-    (formed unknown _ _ (begin m (stage (start call))) call.format-of.result (call.format-of.ensures unknown m)
-    c.before.format.given.1))
+    (formed unknown _ _ (begin m (stage c.before.before.before.before)) c.format_of.result (c.format_of.ensures unknown m)
+    c.in-Of.is))
 
 -- steps 2 to 4: the segment entry
-abbrev segment : tie.After-excepted → Asked entry stage
+abbrev segment : tie.After-excepted-segment → Asked entry stage
 unfolding translate table_walk known
 segment c =
-    let walk = c.before.before.before in
-    let here = known walk.before.before in
+    let here = known c.before.before.before.before.before in
     let a = here.start.args in
     let s = a.storage.now in
-    let ks = walk.segment-walk.new.1.0 in
-    asks here.start _ _ here.runs c.excepted.result s ks
+    let ks = c.segment_walk.new.keys in
+    asks here.start _ _ here.runs c.excepted-segment.result s ks
     (fresh _ _
-    (walk_ended (exception a.at) walk.segment-walk.result c.excepted.result s ks _ _ c.excepted.ensures
-    walk.segment-walk.ensures))
+    (walk_ended (exception a.at) c.segment_walk.result c.excepted-segment.result s ks _ _ c.excepted-segment.ensures
+    c.segment_walk.ensures))
 
-returns-2 : tie.Need-returns-2
+returns-2 : tie.Need-returns-in_default-segment
 unfolding translate table_walk known segment
-returns-2 c = handed (segment c.before.before) c.enum-told2.given.1
+returns-2 c = handed (segment c.before) c.in_default-segment.is
 
 -- steps 5 and 6: the real address
-returns-3 : tie.Need-returns-3
+returns-3 : tie.Need-returns
 unfolding translate table_walk known segment
 returns-3 c =
-    let ending = c.before in
-    let page = ending.before.before.before in
-    let found = page.before.before.before in
-    let here = given (segment found.before.before) found.segment.given.1 in
+    let here = given (segment c.before.before.before.before.before.before.before) c.in-Value.is in
     let a = here.start.args in
     let s = a.storage.now in
-    let ks = page.page-walk-by-size.new.1.0 in
-    last_after _ here.runs ending.excepted2.result c.after.result s ks c.after.ensures
-    (walk_ended (exception a.at) page.page-walk-by-size.result ending.excepted2.result s ks _ _
-    ending.excepted2.ensures page.page-walk-by-size.ensures)
+    let ks = c.page_walk_by_size.new.keys in
+    last_after _ here.runs c.excepted.result c.after.result s ks c.after.ensures
+    (walk_ended (exception a.at) c.page_walk_by_size.result c.excepted.result s ks _ _
+    c.excepted.ensures c.page_walk_by_size.ensures)
 
-pub translate-spec : {M : Type 1} → statement M
-translate-spec =
+pub translate_spec : {M : Type 1} → statement M
+translate_spec =
     tie.close
     (tie.spec
     (λ c κs. search rules)

@@ -17,44 +17,34 @@ entry c = machine c.args.storage.now c.args.keys.now
 abbrev stage : tie.Start → Steps ℕ
 stage c = real_by c.args.rseg c.args.segment c.args.page c.args.at
 
--- the format
-abbrev format : tie.After-or-refuse → tie.After-real-format
-format c = c.before.before.before.before.before
-
 -- the segment entry
-abbrev segment : tie.After-or-refuse → Asked entry stage
+abbrev segment : tie.After-or_refuse-found → Asked entry stage
 unfolding real_by table_walk
 segment c =
-    let walk = c.before.before.before in
-    let start = (format c).before.before.before in
-    let s = start.args.storage.now in
-    let ks = walk.segment-walk.new.1.0 in
-    asks start _ _ (in_halves _ _ _ (begin (entry start) (stage start))) c.or-refuse.result s ks
+    let s = c.args.storage.now in
+    let ks = c.segment_walk.new.keys in
+    asks c.before.before.before.before.before.before.before.before _ _ (in_halves _ _ _ (begin (entry c.before.before.before.before.before.before.before.before) (stage c.before.before.before.before.before.before.before.before))) c.or_refuse-found.result s ks
     (fresh _ _
-    (walk_ended (λ x. refuse) walk.segment-walk.result c.or-refuse.result s ks _ _ c.or-refuse.ensures
-    (simp (format c).real-format.ensures at walk.segment-walk.ensures)))
+    (walk_ended (λ x. refuse) c.segment_walk.result c.or_refuse-found.result s ks _ _ c.or_refuse-found.ensures
+    (simp c.real_format-format.ensures at c.segment_walk.ensures)))
 
-returns : tie.Need-returns
+returns : tie.Need-returns-in_default
 unfolding real_by table_walk segment
-returns c = handed (segment c.before.before) c.enum_told.given.1
+returns c = handed (segment c.before) c.in_default.is
 
 -- the real address
-returns-2 : tie.Need-returns-2
+returns-2 : tie.Need-returns
 unfolding real_by table_walk segment
 returns-2 c =
-    let ending = c.before in
-    let page = ending.before.before.before in
-    let found = page.before.before.before in
-    let asked = found.before.before in
-    let here = given (segment asked) found.found.given.1 in
+    let here = given (segment c.before.before.before.before.before.before.before) c.in-Value.is in
     let s = here.start.args.storage.now in
-    let ks = page.page-walk.new.1.0 in
-    last_after _ here.runs ending.or-refuse2.result c.after.result s ks c.after.ensures
-    (walk_ended (λ x. refuse) page.page-walk.result ending.or-refuse2.result s ks _ _
-    ending.or-refuse2.ensures (simp (format asked).real-format.ensures at page.page-walk.ensures))
+    let ks = c.page_walk.new.keys in
+    last_after _ here.runs c.or_refuse-real.result c.after.result s ks c.after.ensures
+    (walk_ended (λ x. refuse) c.page_walk.result c.or_refuse-real.result s ks _ _
+    c.or_refuse-real.ensures (simp c.real_format-format.ensures at c.page_walk.ensures))
 
-pub real-by-spec : {M : Type 1} → statement M
-real-by-spec =
+pub real_by_spec : {M : Type 1} → statement M
+real_by_spec =
     tie.close
     (tie.spec
     (λ c κs. search rules)

@@ -18,29 +18,26 @@ stage c =
     through_real a.rseg a.segment a.page (bytes_in a.width) a.at
 
 -- the real address
-abbrev real : tie.After-real-by → Asked entry stage
+abbrev real : tie.After-real_by-found → Asked entry stage
 unfolding through_real
 real c =
-    let start = c.before.before.before.before in
-    asks start _ _ (begin (entry start) (stage start)) c.real-by.result start.args.storage.now
-    c.real-by.new.1.0 (fresh _ _ c.real-by.ensures)
+    asks c.before.before.before.before _ _ (begin (entry c.before.before.before.before) (stage c.before.before.before.before)) c.real_by-found.result c.args.storage.now
+    c.real_by-found.new.keys (fresh _ _ c.real_by-found.ensures)
 
-returns : tie.Need-returns
+returns : tie.Need-returns-in_default
 unfolding through_real real
-returns c = handed (real c.before.before.before.before) c.enum_told.given.1
+returns c = handed (real c.before.before.before) c.in_default.is
 
 -- the item there
-returns-2 : tie.Need-returns-2
+returns-2 : tie.Need-returns
 unfolding through_real real
 returns-2 c =
-    let call = c.before.before.before in
-    let at = call.before.before.before in
-    let here = given (real at.before.before.before.before) at.found.given.1 in
-    last_after _ here.runs call.fetch.result c.after.result here.start.args.storage.now
-    call.fetch.new.1.0 c.after.ensures call.fetch.ensures
+    let here = given (real c.before.before.before.before.before.before.before.before) c.in-Value.is in
+    last_after _ here.runs c.fetch.result c.after.result here.start.args.storage.now
+    c.fetch.new.keys c.after.ensures c.fetch.ensures
 
-pub through-real-spec : {M : Type 1} → statement M
-through-real-spec =
+pub through_real_spec : {M : Type 1} → statement M
+through_real_spec =
     tie.close
     (tie.spec
     (λ c κs. search rules)

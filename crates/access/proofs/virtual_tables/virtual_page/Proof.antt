@@ -17,38 +17,31 @@ abbrev stage : tie.Start → Steps Walk
 stage c = page_walk (through_real c.args.rseg 7 8 2) c.args.format c.args.segment c.args.at
 
 -- steps 16 to 21
-abbrev read : tie.After-through-real → Asked entry stage
+abbrev read : tie.After-through_real-read → Asked entry stage
 unfolding page_walk
 read c =
-    let place = c.before.before in
-    let start = place.before.before.before in
-    asks start _ _ (begin (entry start) (stage start)) c.through-real.result start.args.storage.now
-    c.through-real.new.1.0
-    (fresh _ _ (simp place.page-entry-at.ensures at c.through-real.ensures))
+    asks c.before.before.before.before.before _ _ (begin (entry c.before.before.before.before.before) (stage c.before.before.before.before.before)) c.through_real-read.result c.args.storage.now
+    c.through_real-read.new.keys
+    (fresh _ _ (simp c.page_entry_at-place.ensures at c.through_real-read.ensures))
 
-returns : tie.Need-returns
+returns : tie.Need-returns-in_default
 unfolding page_walk read
 returns c =
-    let told = c.before in
-    stopped_read c.as-walk.result (read told.before.before.before.before) c.as-walk.ensures
-    told.enum_told.given.1
+    stopped_read c.as_walk.result (read c.before.before.before.before) c.as_walk.ensures
+    c.in_default.is
 
 -- steps 22 and 23
-returns-2 : tie.Need-returns-2
+returns-2 : tie.Need-returns
 unfolding page_walk
 returns-2 c =
-    let found = c.before.before in
-    let call = found.before.before.before.before in
-    let place = call.before.before in
-    let start = place.before.before.before in
-    let s = start.args.storage.now in
-    let ks = call.through-real.new.1.0 in
-    simp place.page-entry-at.ensures at
-    (c.page-verdict.ensures s ks _ (entry start)
-    (ap (λ r. told r s ks) (sym found.read.given.1) ∙ call.through-real.ensures))
+    let s = c.args.storage.now in
+    let ks = c.through_real-read.new.keys in
+    simp c.page_entry_at-place.ensures at
+    (c.page_verdict.ensures s ks _ (entry c.before.before.before.before.before.before.before.before.before)
+    (ap (λ r. told r s ks) (sym c.in-Value.is) ∙ c.through_real-read.ensures))
 
-pub virtual-page-spec : {M : Type 1} → statement M
-virtual-page-spec =
+pub virtual_page_spec : {M : Type 1} → statement M
+virtual_page_spec =
     tie.close
     (tie.spec
     (λ c κs. search rules)

@@ -17,58 +17,49 @@ abbrev stage : tie.Start → Steps Walk
 stage c = segment_walk (through_real c.args.rseg 5 6 4) c.args.format c.args.table c.args.at
 
 -- step 6
-returns : tie.Need-returns
+returns : tie.Need-returns-then-is_beyond_segments
 unfolding segment_walk
 returns c =
-    let test = c.before in
-    let start = test.before.before.before.before in
-    simp test.before.segment-entry-at.ensures
+    simp c.segment_entry_at-place.ensures
     (settles _
-    (chosen _ _ _ (begin (entry start) (stage start)) (sym test.is-beyond-segments.ensures ∙ c.if1.true)))
+    (chosen _ _ _ (begin (entry c.before.before.before.before.before) (stage c.before.before.before.before.before)) (sym c.is_beyond_segments.ensures ∙ c.if-is_beyond_segments.true)))
 
-abbrev long : tie.Else1 → Reached entry stage
+abbrev long : tie.Else-is_beyond_segments → Reached entry stage
 unfolding segment_walk
 long c =
-    let test = c.before in
-    let start = test.before.before.before.before in
-    reached start
-    (rejected _ _ _ (begin (entry start) (stage start)) (sym test.is-beyond-segments.ensures ∙ c.if1.false))
+    reached c.before.before.before.before.before
+    (rejected _ _ _ (begin (entry c.before.before.before.before.before) (stage c.before.before.before.before.before)) (sym c.is_beyond_segments.ensures ∙ c.if-is_beyond_segments.false))
 
 -- steps 7 to 12
-abbrev read : tie.After-through-real → Asked entry stage
+abbrev read : tie.After-through_real-read → Asked entry stage
 unfolding segment_walk long
 read c =
-    let reach = c.before.before in
-    let here = long reach in
-    asks here.start _ _ here.runs c.through-real.result here.start.args.storage.now
-    c.through-real.new.1.0
-    (fresh _ _ (simp reach.before.before.segment-entry-at.ensures at c.through-real.ensures))
+    let here = long c.before.before in
+    asks here.start _ _ here.runs c.through_real-read.result here.start.args.storage.now
+    c.through_real-read.new.keys
+    (fresh _ _ (simp c.segment_entry_at-place.ensures at c.through_real-read.ensures))
 
-returns-2 : tie.Need-returns-2
+returns-2 : tie.Need-returns-in_default
 unfolding segment_walk long read
 returns-2 c =
-    let told = c.before in
-    stopped_read c.as-walk.result (read told.before.before.before.before) c.as-walk.ensures
-    told.enum_told.given.1
+    stopped_read c.as_walk.result (read c.before.before.before.before) c.as_walk.ensures
+    c.in_default.is
 
 -- steps 13 to 15
-returns-3 : tie.Need-returns-3
+returns-3 : tie.Need-returns
 unfolding segment_walk long
 returns-3 c =
-    let found = c.before.before in
-    let call = found.before.before.before.before in
-    let reach = call.before.before in
-    let here = long reach in
+    let here = long c.before.before.before.before.before.before in
     let s = here.start.args.storage.now in
-    let ks = call.through-real.new.1.0 in
+    let ks = c.through_real-read.new.keys in
     fresh _ _
-    (simp reach.before.before.segment-entry-at.ensures at
-    (c.segment-verdict.ensures s ks _ (entry here.start)
-    (ap (λ r. told r s ks) (sym found.read.given.1) ∙ call.through-real.ensures)))
+    (simp c.segment_entry_at-place.ensures at
+    (c.segment_verdict.ensures s ks _ (entry here.start)
+    (ap (λ r. told r s ks) (sym c.in-Value.is) ∙ c.through_real-read.ensures)))
     ∙ sym here.runs.so
 
-pub virtual-segment-spec : {M : Type 1} → statement M
-virtual-segment-spec =
+pub virtual_segment_spec : {M : Type 1} → statement M
+virtual_segment_spec =
     tie.close
     (tie.spec
     (λ c κs. search rules)

@@ -11,40 +11,30 @@ abbrev entry : tie.Start → Machine
 entry c = machine c.args.storage.now c.args.keys.now
 
 -- steps 16 to 23, where the segment entry was found
-returns : tie.Need-returns
+returns : tie.Need-returns-in-Found
 unfolding virtual_walk table_walk
 returns c =
-    let page = c.before.before.before in
-    let found = page.before.before.before in
-    let walk = found.before.before.before.before in
-    let start = walk.before.before.before.before in
-    let s = start.args.storage.now in
+    let s = c.args.storage.now in
     let runs =
-    went_on _ _ (entry start) walk.virtual-segment.result s walk.virtual-segment.new.1.0
-    walk.virtual-segment.ensures found.segment.given.1 in
-    walk_after _ runs page.virtual-page.result c.after.result s page.virtual-page.new.1.0
-    c.after.ensures page.virtual-page.ensures
+    went_on _ _ (entry c.before.before.before.before.before.before.before.before.before.before.before.before) c.virtual_segment-segment.result s c.virtual_segment-segment.new.keys
+    c.virtual_segment-segment.ensures c.in-Found.is in
+    walk_after _ runs c.virtual_page.result c.after.result s c.virtual_page.new.keys
+    c.after.ensures c.virtual_page.ensures
 
-returns-2 : tie.Need-returns-2
+returns-2 : tie.Need-returns-in-Fault
 unfolding virtual_walk table_walk
 returns-2 c =
-    let found = c.before in
-    let walk = found.before.before.before.before in
-    let start = walk.before.before.before.before in
-    faulted _ _ (entry start) walk.virtual-segment.result start.args.storage.now
-    walk.virtual-segment.new.1.0 walk.virtual-segment.ensures found.segment2.given.1
+    faulted _ _ (entry c.before.before.before.before.before.before.before) c.virtual_segment-segment.result c.args.storage.now
+    c.virtual_segment-segment.new.keys c.virtual_segment-segment.ensures c.in-Fault.is
 
-returns-3 : tie.Need-returns-3
+returns-3 : tie.Need-returns-in-Stopped
 unfolding virtual_walk table_walk
 returns-3 c =
-    let found = c.before in
-    let walk = found.before.before.before.before in
-    let start = walk.before.before.before.before in
-    stopped_short _ _ (entry start) walk.virtual-segment.result start.args.storage.now
-    walk.virtual-segment.new.1.0 walk.virtual-segment.ensures found.segment3.given.1
+    stopped_short _ _ (entry c.before.before.before.before.before.before.before) c.virtual_segment-segment.result c.args.storage.now
+    c.virtual_segment-segment.new.keys c.virtual_segment-segment.ensures c.in-Stopped.is
 
-pub virtual-walk-spec : {M : Type 1} → statement M
-virtual-walk-spec =
+pub virtual_walk_spec : {M : Type 1} → statement M
+virtual_walk_spec =
     tie.close
     (tie.spec
     (λ c κs. search rules)

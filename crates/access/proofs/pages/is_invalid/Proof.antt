@@ -1,9 +1,0 @@
-use Rattle.std.proofs.Common.{rules}
-use Rattle.access.proofs.pages.is_invalid.Statement.{statement}
-use Rattle.access.proofs.pages.is_invalid.Tie as tie
-
-returns : tie.Need-returns
-returns c = simp c.page-bytes.ensures.0
-
-pub is-invalid-spec : {M : Type 1} → statement M
-is-invalid-spec = tie.close (tie.spec (λ c κs. search rules) (λ c. search rules) returns)

@@ -1,0 +1,6 @@
+use Rattle.std.proofs.Common.{rules}
+use Rattle.access.proofs.pages.page_entry.Goals as goal
+
+pub returns : goal.returns
+returns c =
+    simp c.page_entry_at-place.ensures at c.fetch.ensures

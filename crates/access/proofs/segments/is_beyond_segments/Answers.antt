@@ -1,0 +1,5 @@
+use Rattle.std.proofs.Common.{rules}
+use Rattle.access.proofs.segments.is_beyond_segments.Goals as goal
+
+pub returns : goal.returns
+returns c = simp c.segment_bytes.ensures.0

@@ -1,0 +1,5 @@
+use Rattle.std.proofs.Common.{rules}
+use Rattle.storage_key.proofs.keys.swap_word.Goals as goal
+
+pub returns : goal.returns
+returns c = simp c.key_word.ensures at c.swap_with.ensures

@@ -101,7 +101,7 @@ words c =
 same-length-8 : tie.Need-shape_of-keys-in_default-end
 unfolding store_control block operand address registers values
 same-length-8 c =
-    c.operand_words-words.auto.keys ∙ reached_keys (values at)
+    c.operand_words-words.auto.keys ∙ reached_keys (values c.before.before)
 
 returns-4 : tie.Need-returns-in_default-end
 unfolding store_control block operand address registers values words
@@ -135,12 +135,13 @@ returns-5 c =
     let here = reals c.before.before.before.before.before in
     let to = c.operand_words-words in
     let from = c.virtual_registers-registers in
-    let e = counted c.before.before.before.before.before.before.before.before.before.before.before.before.before.before.before.before.before.before.before.before.before.before in
+    let n = c.before.before.before.before.before.before.before.before.before.before.before.before.before.before.before.before.before.before.before.before.before.before in
+    let e = counted n in
     completes c.completed.result c.store_words.new.storage
     c.store_words.new.keys _ here.runs
     (c.completed.ensures ∙ ap (completion here.count)
-    (sym (stored c.before.before.before.before.before.before.before.before.before.before.before.before.before.before.before.before.before.before.before.before.before.before to.result.words from.result.words to.ensures.1 from.ensures.1)
-    ∙ ap (λ c.before.before.before.before.before.before.before.before.before.before.before.before.before.before.before.before.before.before.before.before.before.before.before.before. length (word_stores (take c.before.before.before.before.before.before.before.before.before.before.before.before.before.before.before.before.before.before.before.before.before.before.before.before to.result.words) (take c.before.before.before.before.before.before.before.before.before.before.before.before.before.before.before.before.before.before.before.before.before.before.before.before from.result.words))) e))
+    (sym (stored n to.result.words from.result.words to.ensures.1 from.ensures.1)
+    ∙ ap (λ k. length (word_stores (take k to.result.words) (take k from.result.words))) e))
     (simp e at c.store_words.ensures)
 
 pub store_control_spec : {M : Type 1} → statement M

@@ -1,0 +1,5 @@
+use borrow.Author.Rules.{rules}
+use Rattle.assist.proofs.admission.is_odd.Goals as goal
+
+pub returns : goal.returns
+returns c = simp c.instruction_address.ensures

@@ -1,4 +1,3 @@
-use borrow.Author.Rules.{rules}
 use Rattle.assist.proofs.answer_of.Goals as goal
 
 pub returns-in-Complete : goal.returns-in-Complete

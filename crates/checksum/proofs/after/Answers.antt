@@ -1,5 +1,4 @@
 use Rattle.checksum.specs.Register.{after_byte}
-use borrow.Author.Rules.{rules}
 use Rattle.checksum.proofs.after.Goals as goal
 
 pub returns : goal.returns

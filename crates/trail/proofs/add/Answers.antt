@@ -5,7 +5,6 @@ use mathlib.Core.List.{◌++◌}
 use lib.Seq.{sets}
 use Rattle.trail.specs.Records.{record_bytes, trailer_bytes}
 use Rattle.trail.specs.Trails.{None, trail, turned_away, add}
-use borrow.Author.Rules.{rules}
 use Rattle.trail.proofs.add.Goals as goal
 
 pub returns : goal.returns

@@ -1,5 +1,4 @@
 use native.Mathlib.Omega.{arith}
-use borrow.Author.Rules.{rules}
 use Rattle.trail.proofs.one_more.Goals as goal
 
 pub returns-then-n-eq-LARGEST : goal.returns-then-n-eq-LARGEST

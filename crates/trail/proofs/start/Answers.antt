@@ -1,8 +1,7 @@
 use mathlib.Core.Path.{ap}
 use borrow.Author.Tests.{lt-ltb, le-ltb}
-use Rattle.trail.specs.Trails.{None, trail, refusal_number, start}
+use Rattle.trail.specs.Trails.{None, trail, start}
 use Rattle.trail.proofs.Cases.{numbered}
-use borrow.Author.Rules.{rules}
 use Rattle.trail.proofs.start.Goals as goal
 
 pub returns-then-buffer-lt-TRAILER_BYTES : goal.returns-then-buffer-lt-TRAILER_BYTES
@@ -15,7 +14,7 @@ pub returns : goal.returns
 unfolding start
 returns c =
     let both =
-        numbered
-        (simp (c.answered-2.ensures, le-ltb _ _ c.if-buffer-lt-TRAILER_BYTES.false)
-        (ap (λ b. trail None 0 b) c.put_words.ensures)) in
+    numbered
+    (simp (c.answered-2.ensures, le-ltb _ _ c.if-buffer-lt-TRAILER_BYTES.false)
+    (ap (λ b. trail None 0 b) c.put_words.ensures)) in
     record { trail = both.0; number = both.1 }

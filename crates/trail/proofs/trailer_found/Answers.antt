@@ -1,5 +1,4 @@
 use borrow.Author.Tests.{le-leb, lt-leb}
-use borrow.Author.Rules.{rules}
 use Rattle.trail.proofs.trailer_found.Goals as goal
 
 pub returns-then-buffer-at : goal.returns-then-buffer-at

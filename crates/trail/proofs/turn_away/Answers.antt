@@ -3,7 +3,6 @@ use mathlib.Core.Path.{ap, ◌∙◌}
 use lib.Seq.{sets}
 use Rattle.trail.specs.Words.{big_endian}
 use Rattle.trail.specs.Trails.{None, trail, one_more, turn_away}
-use borrow.Author.Rules.{rules}
 use Rattle.trail.proofs.turn_away.Goals as goal
 
 pub returns : goal.returns

@@ -17,7 +17,6 @@ use Rattle.vma.specs.Packed.{packed, numbers_in, count_in}
 use Rattle.vma.specs.Called.{called}
 use Rattle.vma.proofs.Fields.{answer_fits}
 use Rattle.vma.proofs.Inverse.{packing_inverse}
-use borrow.Author.Rules.{rules}
 use Rattle.vma.proofs.vma_attempt.Goals as goal
 
 only_referenced : {m : Machine} {call : Call} {r : Result} {keys : List ℕ} → keys ≡ r.after.keys → Untouched m call r

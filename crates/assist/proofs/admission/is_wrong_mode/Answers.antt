@@ -1,4 +1,3 @@
-use borrow.Author.Rules.{rules}
 use Rattle.assist.proofs.admission.is_wrong_mode.Goals as goal
 
 pub returns : goal.returns

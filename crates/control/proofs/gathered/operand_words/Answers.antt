@@ -9,7 +9,7 @@ use Rattle.control.proofs.gathered.operand_words.Goals.{After-after-tested}
 -- the store test of a turn
 abbrev tested : (c : After-after-tested)
     → Asked {S = Unit {0}} (λ u. machine c.args.storage.now c.args.keys.now)
-      (λ u. operand_words c.args.guest c.args.address c.args.n)
+    (λ u. operand_words c.args.guest c.args.address c.args.n)
 tested c =
     asked_turn _ _ c.loop-i.invariant c.loop-i-test.true c.store_test.result c.after-tested.result
     c.args.storage.now c.store_test.new.keys c.after-tested.ensures c.store_test.ensures
@@ -21,9 +21,10 @@ pub shape_of-keys-in_default : goal.shape_of-keys-in_default
 shape_of-keys-in_default c = c.store_test.auto.keys ∙ c.loop-i.invariant.kept
 
 pub returns-in_default : goal.returns-in_default
-returns-in_default c =
-    (gathering_ended (tested (goal.at.returns-in_default c).After-after-tested) _ c.in_default.is,
-    c.loop-i.invariant.room)
+returns-in_default c = (
+  gathering_ended (tested (goal.at.returns-in_default c).After-after-tested) _ c.in_default.is,
+  c.loop-i.invariant.room,
+)
 
 pub loop-i-preserved : goal.loop-i-preserved
 loop-i-preserved c =

@@ -1,5 +1,4 @@
 use Rattle.masks.proofs.Bools.{or_false}
-use borrow.Author.Rules.{rules}
 use Rattle.masks.proofs.bits.any_rises.Goals as goal
 
 pub returns : goal.returns

@@ -1,5 +1,4 @@
 use Rattle.rules.specs.Recording.{marked}
-use borrow.Author.Rules.{rules}
 use Rattle.masks.proofs.bits.put_mask.Goals as goal
 
 pub returns : goal.returns

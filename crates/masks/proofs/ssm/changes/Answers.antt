@@ -1,4 +1,3 @@
-use borrow.Author.Rules.{rules}
 use Rattle.masks.proofs.ssm.changes.Goals as goal
 
 pub returns : goal.returns

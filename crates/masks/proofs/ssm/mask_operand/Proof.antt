@@ -6,7 +6,7 @@ use Rattle.rules.specs.Steps.{Steps}
 use Rattle.rules.specs.SetSystemMask.{mask_operand}
 use Rattle.storage.specs.Answers.{machine}
 use Rattle.storage.proofs.Laws.{begin, fresh, pass, stops, last_after}
-use Rattle.storage.proofs.Stages.{Reached, Asked, reached, asks, asks_after, given, reached_keys, handed}
+use Rattle.storage.proofs.Stages.{Reached, Asked, asks, asks_after, given, reached_keys, handed}
 use borrow.Author.Rules.{rules}
 use Rattle.masks.proofs.ssm.mask_operand.Statement.{statement}
 use Rattle.masks.proofs.ssm.mask_operand.Tie as tie

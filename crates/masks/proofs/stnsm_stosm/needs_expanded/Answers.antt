@@ -1,5 +1,4 @@
 use Rattle.masks.proofs.Bools.{or_false}
-use borrow.Author.Rules.{rules}
 use Rattle.masks.proofs.stnsm_stosm.needs_expanded.Goals as goal
 
 pub returns-in-And : goal.returns-in-And

@@ -1,4 +1,3 @@
-use borrow.Author.Rules.{rules}
 use Rattle.masks.proofs.stnsm_stosm.new_mask.Goals as goal
 
 pub returns-in-And : goal.returns-in-And

@@ -85,7 +85,7 @@ unfolding store_then assisted field halfword
 first c = given (halfword c.before) c.in-Value-halfword.is
 
 changed : (c : tie.After-new_mask-new)
-    →     let a = (first c.before.before.before).start.args in
+    → let a = (first c.before.before.before).start.args in
     c.new_mask-new.result ≡ new_mask a.change (mask_in c.in-Value-halfword.first) (immediate a.call)
 unfolding store_then assisted field halfword first
 changed c =

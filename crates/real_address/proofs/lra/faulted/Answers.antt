@@ -1,5 +1,4 @@
 use Rattle.storage.specs.Answers.{seen}
-use borrow.Author.Rules.{rules}
 use Rattle.real_address.proofs.lra.faulted.Goals as goal
 
 pub returns-in-SegmentTableLength : goal.returns-in-SegmentTableLength

@@ -1,7 +1,6 @@
 use mathlib.Core.Path.{ap}
 use Rattle.rules.specs.Call.{complete_as}
 use Rattle.storage.specs.Answers.{seen, finished}
-use borrow.Author.Rules.{rules}
 use Rattle.real_address.proofs.lra.loaded.Goals as goal
 
 pub returns : goal.returns

@@ -1,4 +1,3 @@
-use Rattle.std.proofs.Common.{rules}
 use Rattle.storage_key.proofs.keys.assists_keys.Goals as goal
 
 pub returns : goal.returns

@@ -1,4 +1,4 @@
-use Rattle.std.proofs.Common.{arith, rules}
+use Rattle.std.proofs.Common.{arith}
 use Rattle.storage_key.proofs.keys.inserted_key.Goals as goal
 
 pub returns-then-extended : goal.returns-then-extended

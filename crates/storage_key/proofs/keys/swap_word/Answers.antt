@@ -1,4 +1,3 @@
-use Rattle.std.proofs.Common.{rules}
 use Rattle.storage_key.proofs.keys.swap_word.Goals as goal
 
 pub returns : goal.returns

@@ -1,4 +1,3 @@
-use Rattle.std.proofs.Common.{rules}
 use Rattle.storage_key.proofs.keys.virtual_key.Goals as goal
 
 pub returns-then-page : goal.returns-then-page

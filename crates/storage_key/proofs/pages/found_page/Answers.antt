@@ -1,4 +1,3 @@
-use Rattle.std.proofs.Common.{rules}
 use Rattle.storage_key.proofs.pages.found_page.Goals as goal
 
 pub returns : goal.returns

@@ -2,7 +2,6 @@ use Rattle.rules.specs.Endings.{refuse}
 use Rattle.rules.specs.SwapTables.{segment_of}
 use Rattle.storage.specs.Answers.{machine}
 use Rattle.access.proofs.Paths.{walk_ended}
-use Rattle.std.proofs.Common.{rules}
 use Rattle.storage_key.proofs.tables.segment_of.Goals as goal
 
 pub returns : goal.returns

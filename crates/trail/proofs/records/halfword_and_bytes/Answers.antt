@@ -1,5 +1,4 @@
 use Rattle.trail.proofs.RecordBytes.{halfword_two_bytes}
-use borrow.Author.Rules.{rules}
 use Rattle.trail.proofs.records.halfword_and_bytes.Goals as goal
 
 pub returns : goal.returns

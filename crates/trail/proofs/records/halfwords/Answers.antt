@@ -1,5 +1,4 @@
 use Rattle.trail.proofs.RecordBytes.{two_halfwords}
-use borrow.Author.Rules.{rules}
 use Rattle.trail.proofs.records.halfwords.Goals as goal
 
 pub returns : goal.returns

@@ -3,7 +3,6 @@ use mathlib.Core.List.{◌++◌}
 use Rattle.trail.specs.Words.{big_endian, words_bytes}
 use Rattle.trail.specs.Records.{general_registers, record_bytes, trailer_bytes}
 use Rattle.trail.proofs.RecordBytes.{two_words}
-use borrow.Author.Rules.{rules}
 use Rattle.trail.proofs.records.record_and_trailer.Goals as goal
 
 pub returns : goal.returns

@@ -7,7 +7,6 @@ use lib.Seq.{take_all, length-sets}
 use borrow.Rule.Slice.PartMut.{put_mid}
 use Rattle.trail.specs.Words.{big_endian, words_bytes}
 use Rattle.trail.proofs.Puts.{words_turn, put_between, put_part}
-use borrow.Author.Rules.{rules}
 use Rattle.trail.proofs.words.fill.Goals as goal
 
 pub loop-i-init : goal.loop-i-init

@@ -1,5 +1,4 @@
 use Rattle.rules.proofs.Bytes.{four_set}
-use borrow.Author.Rules.{rules}
 use Rattle.trail.proofs.words.put_word.Goals as goal
 
 pub returns : goal.returns

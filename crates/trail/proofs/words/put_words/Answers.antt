@@ -4,7 +4,6 @@ use lib.ListN.{length}
 use borrow.Rule.Slice.PartMut.{put_mid}
 use Rattle.trail.specs.Words.{words_bytes}
 use Rattle.trail.proofs.Puts.{put_part, words_length}
-use borrow.Author.Rules.{rules}
 use Rattle.trail.proofs.words.put_words.Goals as goal
 
 pub returns : goal.returns

@@ -1,7 +1,6 @@
 use mathlib.Core.Path.{ap, ◌∙◌}
 use Rattle.rules.specs.Guest.{instruction_address}
 use Rattle.vma.specs.Recorded.{entry_from}
-use borrow.Author.Rules.{rules}
 use Rattle.vma.proofs.entries.entry_from.Goals as goal
 
 pub returns : goal.returns

@@ -1,6 +1,6 @@
-use Prim.Native.Nat.{◌+◌, ◌-◌, ◌≤◌}
+use Prim.Native.Nat.{◌+◌}
 use mathlib.Core.Path.{◌≡◌, refl, sym, ap, ◌∙◌}
-use lib.ListN.{length, get_or, take, drop, length-set, length-drop}
+use lib.ListN.{length, get_or, drop, length-set, length-drop}
 use lib.Seq.{take_all, get_or-drop}
 use Rattle.vma.proofs.Words.{copy_turn}
 use native.Mathlib.Omega.{arith}

@@ -1,8 +1,8 @@
-use Prim.Native.Nat.{ℕ, ◌+◌, ◌-◌, ◌≤◌}
+use Prim.Native.Nat.{◌+◌}
 use native.Mathlib.Omega.{arith}
 use mathlib.Core.Path.{◌≡◌, refl, sym, ap, ◌∙◌}
-use mathlib.Core.List.{List, [], ◌∷◌, ◌++◌}
-use lib.ListN.{length, get_or, take, drop, set, length-set, take-append-drop}
+use mathlib.Core.List.{◌++◌}
+use lib.ListN.{length, get_or, take, set, length-set, take-append-drop}
 use lib.Seq.{take_all, get_or-drop, drop-set-lt}
 use Rattle.vma.proofs.Words.{copy_turn, left, right}
 use borrow.Author.Rules.{rules}

@@ -1,7 +1,6 @@
 use Prim.Native.Nat.{◌+◌, ◌*◌, ◌%◌, ◌^◌}
 use mathlib.Core.Path.{ap, ◌∙◌}
 use Rattle.vma.proofs.Recorded.{refusal_whole}
-use borrow.Author.Rules.{rules}
 use Rattle.vma.proofs.packing.pack_trail.Goals as goal
 
 pub returns : goal.returns

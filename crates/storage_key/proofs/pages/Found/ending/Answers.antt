@@ -1,4 +1,3 @@
-use Rattle.std.proofs.Common.{rules}
 use Rattle.storage_key.proofs.pages.Found.ending.Goals as goal
 
 pub returns-in-Page : goal.returns-in-Page

@@ -1,4 +1,3 @@
-use borrow.Author.Rules.{rules}
 use Rattle.trail.proofs.entry.Entry.of.Goals as goal
 
 pub returns : goal.returns

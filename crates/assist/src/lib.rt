@@ -1,5 +1,6 @@
 // One attempt of the virtual-machine assist: document 01, "The numbered endings".
 #![tactic(auto)]
+
 ghost use Rattle.std.specs.Prelude.{◌≤◌, ◌≡◌, ◌||◌, eqb, length};
 ghost use Rattle.operations.specs.Operations.{begins_assisted};
 ghost use Rattle.rules.specs.Endings.{numbers};

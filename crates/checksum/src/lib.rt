@@ -1,5 +1,6 @@
 // CRC-32 (ISO-HDLC, as in zlib), byte by byte: a register that starts at START, goes over bytes, and is finished.
 #![tactic(auto)]
+
 ghost use Rattle.std.specs.Prelude.{◌-◌, ◌≡◌};
 ghost use Rattle.checksum.specs.Register.{steps, after_byte, over_bytes, bytes_of};
 

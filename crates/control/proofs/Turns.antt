@@ -15,9 +15,9 @@ use Rattle.rules.specs.StoreControl.{gather}
 use Rattle.storage.specs.declared.steps.Stepped.{Stepped}
 use Rattle.storage.specs.declared.steps.Stepped.TheVariants.{Value, Stopped}
 use Rattle.storage.specs.declared.answers.Concluded.{Concluded}
-use Rattle.storage.specs.Answers.{machine, went, seen, later, finished, finish, ending}
+use Rattle.storage.specs.Answers.{machine, told, went, seen, later, finished, finish, ending}
 use Rattle.storage.proofs.Laws.{Runs, begin, more, goes, ends, settles, ended_by}
-use Rattle.storage.proofs.Stages.{Reached, Asked, reached, ended}
+use Rattle.storage.proofs.Stages.{Reached, Asked, reached, asks_after, ended}
 use Rattle.control.specs.Gathered.{Gathered, gathered_by, gathered}
 
 -- ---- the loop
@@ -47,6 +47,12 @@ module _ (p : ℕ → Steps ℕ) (next : ℕ → ℕ) {t : Steps (List ℕ)} {n 
       (p x >>= λ v. gather p next (take i words ++ v ∷ []) (next x) (n - (i + 1)))
   unfolding gather
   wanted inside = let e : n - i ≡ suc (n - (i + 1)) = omega arith in rw e at g.runs
+
+  -- it was asked, and its answer told after the references before it
+  abbrev pub asked_turn : i < n → (r r' : Stepped) (s' ks' : List ℕ) → r' ≡ later c r
+      → told r s' ks' ≡ seen (p x) (machine s ks)
+      → Asked {S = Unit {0}} (λ u. machine s ks₀) (λ u. t)
+  asked_turn inside r r' s' ks' e f = asks_after tt _ _ (wanted inside) r r' s' ks' e f
 
   -- and was made
   pub gathering_more : {ks' : List ℕ} {d : ℕ} (v y : ℕ) → i < n → n ≤ 16 → length ks' ≡ length ks

@@ -17,7 +17,7 @@ use Rattle.rules.specs.Machine.{Machine}
 use Rattle.rules.specs.Writes.{perform_all, entry}
 use Rattle.rules.specs.References.{Reference}
 use Rattle.rules.specs.Recording.{noted_all}
-use Rattle.rules.specs.Steps.{Steps, branch, ◌>>=◌, ◌>>◌, stop_if}
+use Rattle.rules.specs.Steps.{Steps, branch, ◌>>◌, stop_if}
 use Rattle.rules.specs.Run.{Outcome, ended, gave, Run, run}
 use Rattle.rules.specs.Call.{Call, operation_byte, operation, RecordChange, changed, Completion}
 use Rattle.rules.specs.SetSystemMask.{set_system_mask}

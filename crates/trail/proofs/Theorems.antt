@@ -10,7 +10,7 @@ use borrow.Author.Tests.{le-ltb}
 use Rattle.trail.specs.Words.{word_at}
 use Rattle.trail.specs.Records.{Entry, record_bytes, trailer_bytes}
 use Rattle.trail.specs.Trails.{Trail, None, trail, start, distance, largest, trailer_size, turned_away}
-use Rattle.trail.specs.Runs.{write_all, run, went_in, records_from}
+use Rattle.trail.specs.Runs.{write_on, write_all, run, went_in, records_from}
 use Rattle.trail.specs.Theorems.{recorded, capacity, RunKept, NoneWrittenOver, RecordLength, AttemptFits}
 use Rattle.rules.specs.Call.{operation}
 use Rattle.rules.specs.Attempt.{attempt}
@@ -115,7 +115,7 @@ run_kept b es h =
 
 write_all_lem : (t : Trail) (es later : List Entry) → write_all t (es ++ later) ≡ write_all (write_all t es) later
 write_all_lem t [] later = refl
-write_all_lem t (e ∷ es) later = write_all_lem _ es later
+write_all_lem t (e ∷ es) later = write_all_lem (write_on t e) es later
 
 -- the records that fill the front stay
 front_stays : (b records : List ℕ) (n k : ℕ) (later : List Entry) → Sound b records n k

@@ -1,5 +1,6 @@
 // The library that C programs link: three entries, on bytes, words and numbers. include/vma.h declares them.
 #![tactic(auto)]
+
 ghost use Rattle.std.specs.Prelude.{◌≡◌, length};
 ghost use Rattle.rules.specs.Endings.{numbers};
 ghost use Rattle.rules.specs.Theorems.ReferenceBits.{OnlyReferenced};

@@ -15,34 +15,30 @@ abbrev call : tie.Start → Call
 call c = let a = c.args in record { guest = a.guest; first = a.first; installed = a.installed }
 
 -- the table's mark
-program-requires : tie.Need-program-requires
+program-requires : tie.Need-program-concluded-requires
 program-requires c κs =
-    let looked = c.before.before in
-    ap (λ o. o.assisted) looked.operation-of.ensures
-    ∙ ap begins_assisted looked.before.operation-byte.ensures
+    ap (λ o. o.assisted) c.operation_of-operation.ensures
+    ∙ ap begins_assisted c.operation_byte.ensures
 
 returns : tie.Need-returns
 unfolding attempted
 returns c =
-    let at = c.before.before.before.before.before in
-    let looked = at.before.before.before in
-    let start = looked.before.before.before.before in
-    let m = machine start.args.storage.now start.args.keys.now in
-    let concluded = at.program.result in
-    let length = ap (λ o. o.length) looked.operation-of.ensures
-    ∙ ap length_of looked.before.operation-byte.ensures in
-    let e = ap (shown (call start)) at.program.ensures ∙ attempts m (call start) in
+    let m = machine c.args.storage.now c.args.keys.now in
+    let concluded = c.program-concluded.result in
+    let length = ap (λ o. o.length) c.operation_of-operation.ensures
+    ∙ ap length_of c.operation_byte.ensures in
+    let e = ap (shown (call c.before.before.before.before.before.before.before.before.before.before.before.before)) c.program-concluded.ensures ∙ attempts m (call c.before.before.before.before.before.before.before.before.before.before.before.before) in
     let answer =
-    c.answer-of.ensures ∙ ap (answer_of concluded (call start)) length ∙ ap (λ f. f.answer) e in
+    c.answer_of.ensures ∙ ap (answer_of concluded (call c.before.before.before.before.before.before.before.before.before.before.before.before)) length ∙ ap (λ f. f.answer) e in
     let count = ap (λ x. x.count) answer in
-    let counted = count_bounded m (call start) in
+    let counted = count_bounded m (call c.before.before.before.before.before.before.before.before.before.before.before.before) in
     let bound = subst (λ n. n ≤ 85) (sym count) counted.at_most in
     let storage = ap (λ f. f.after.storage) e in
     let keys = ap (λ f. f.after.keys) e in
     (answer, (ap (λ x. numbers x.ending) answer, (count ∙ counted.length, (bound, (storage, keys)))))
 
-pub attempt-spec : {M : Type 1} → statement M
-attempt-spec =
+pub attempt_spec : {M : Type 1} → statement M
+attempt_spec =
     tie.close
     (tie.spec
     (λ c κs. search rules)

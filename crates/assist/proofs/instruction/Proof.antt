@@ -38,153 +38,128 @@ entry c = machine c.args.storage.now c.args.keys.now
 abbrev stage : tie.Start → Steps Completion
 stage c = instruction c.args.call
 
-abbrev start : tie.After-operation → tie.Start
-start c = c.before.before.before
-
 -- SSM
-returns : tie.Need-returns
+returns : tie.Need-returns-then-operation-eq128
 unfolding instruction
 returns c =
-    let call = c.before.before.before.before in
-    let test = call.before.before.before in
-    let code = test.before in
-    continues call.set-system-mask.result call.set-system-mask.new.0
-    call.set-system-mask.new.1.0
-    (chosen _ _ _ (begin (entry (start code)) (stage (start code)))
-    (eq-eqb _ _ (sym code.operation.ensures ∙ test.if1.true)))
-    call.set-system-mask.ensures
+    continues c.set_system_mask.result c.set_system_mask.new.storage
+    c.set_system_mask.new.keys
+    (chosen _ _ _ (begin (entry c.before.before.before.before.before.before.before.before.before.before.before) (stage c.before.before.before.before.before.before.before.before.before.before.before))
+    (eq-eqb _ _ (sym c.operation-operation.ensures ∙ c.if-operation-eq128.true)))
+    c.set_system_mask.ensures
 
-abbrev not-ssm : tie.Else1 → Reached entry stage
+abbrev not-ssm : tie.Else-operation-eq128 → Reached entry stage
 unfolding instruction
 not-ssm c =
-    let code = c.before in
-    reached (start code)
-    (rejected _ _ _ (begin (entry (start code)) (stage (start code)))
-    (ne_eqb _ _ (λ e. c.if1.false (code.operation.ensures ∙ e))))
+    reached c.before.before.before.before
+    (rejected _ _ _ (begin (entry c.before.before.before.before) (stage c.before.before.before.before))
+    (ne_eqb _ _ (λ e. c.if-operation-eq128.false (c.operation-operation.ensures ∙ e))))
 
 -- STCTL
-returns-2 : tie.Need-returns-2
+returns-2 : tie.Need-returns-then-operation-eq182
 unfolding instruction not-ssm
 returns-2 c =
-    let call = c.before.before.before.before in
-    let test = call.before.before.before in
-    let here = not-ssm test.before in
-    continues call.store-control.result call.store-control.new.0
-    call.store-control.new.1.0
-    (chosen _ _ _ here.runs (eq-eqb _ _ (sym test.before.before.operation.ensures ∙ test.if2.true)))
-    call.store-control.ensures
+    let here = not-ssm c.before.before.before.before.before.before.before.before in
+    continues c.store_control.result c.store_control.new.storage
+    c.store_control.new.keys
+    (chosen _ _ _ here.runs (eq-eqb _ _ (sym c.operation-operation.ensures ∙ c.if-operation-eq182.true)))
+    c.store_control.ensures
 
-abbrev not-stctl : tie.Else2 → Reached entry stage
+abbrev not-stctl : tie.Else-operation-eq182 → Reached entry stage
 unfolding instruction not-ssm
 not-stctl c =
     let here = not-ssm c.before in
     reached here.start
-    (rejected _ _ _ here.runs (ne_eqb _ _ (λ e. c.if2.false (c.before.before.operation.ensures ∙ e))))
+    (rejected _ _ _ here.runs (ne_eqb _ _ (λ e. c.if-operation-eq182.false (c.operation-operation.ensures ∙ e))))
 
--- STNSM and STOSM, or none of the two
-abbrev code : tie.After-is-store-then → tie.After-operation
-code c = c.before.before.before
-
-one_of_two : (c : tie.After-is-store-then)
-    → let op = operation (start (code c)).args.call in
-    (eqb op 0xac || eqb op 0xad) ≡ c.is-store-then.result
+one_of_two : (c : tie.After-is_store_then)
+    → let op = operation c.args.call in
+    (eqb op 0xac || eqb op 0xad) ≡ c.is_store_then.result
 one_of_two c =
-    ap (λ o. eqb o 0xac || eqb o 0xad) (sym (code c).operation.ensures) ∙ sym c.is-store-then.ensures
+    ap (λ o. eqb o 0xac || eqb o 0xad) (sym c.operation-operation.ensures) ∙ sym c.is_store_then.ensures
 
-returns-3 : tie.Need-returns-3
+returns-3 : tie.Need-returns-then-is_store_then
 unfolding instruction not-ssm not-stctl
 returns-3 c =
-    let call = c.before.before.before.before in
-    let change = call.before in
-    let test = change.before.before.before in
-    let two = test.before in
-    let here = not-stctl two.before in
+    let here = not-stctl c.before.before.before.before.before.before.before.before.before.before in
     let a = here.start.args in
-    continues call.store_then.result call.store_then.new.0 call.store_then.new.1.0
-    (either-change a.call _ _ _ here.runs (one_of_two two ∙ test.if3.true))
-    (call.store_then.ensures
+    continues c.store_then.result c.store_then.new.storage c.store_then.new.keys
+    (either-change a.call _ _ _ here.runs (one_of_two c.before.before.before.before.before.before.before.before.before ∙ c.if-is_store_then.true))
+    (c.store_then.ensures
     ∙ ap (λ x. finish (seen (store_then x a.call) (entry here.start)))
-    (change.mask-change.ensures ∙ ap (λ o. change_by (eqb o 0xac)) (code two).operation.ensures))
+    (c.mask_change.ensures ∙ ap (λ o. change_by (eqb o 0xac)) c.operation-operation.ensures))
 
-abbrev not-mask : tie.Else3 → Reached entry stage
+abbrev not-mask : tie.Else-is_store_then → Reached entry stage
 unfolding instruction not-ssm not-stctl
 not-mask c =
     let here = not-stctl c.before.before in
     reached here.start
-    (no_change here.start.args.call _ _ _ here.runs (one_of_two c.before ∙ c.if3.false))
+    (no_change here.start.args.call _ _ _ here.runs (one_of_two c.before ∙ c.if-is_store_then.false))
 
 -- SSK
-returns-4 : tie.Need-returns-4
+returns-4 : tie.Need-returns-then-operation-eq8
 unfolding instruction not-ssm not-stctl not-mask
 returns-4 c =
-    let call = c.before.before.before.before in
-    let test = call.before.before.before in
-    let here = not-mask test.before in
-    continues call.set-storage-key.result call.set-storage-key.new.0
-    call.set-storage-key.new.1.0
+    let here = not-mask c.before.before.before.before.before.before.before.before in
+    continues c.set_storage_key.result c.set_storage_key.new.storage
+    c.set_storage_key.new.keys
     (chosen _ _ _ here.runs
-    (eq-eqb _ _ (sym (code test.before.before).operation.ensures ∙ test.if4.true)))
-    call.set-storage-key.ensures
+    (eq-eqb _ _ (sym c.operation-operation.ensures ∙ c.if-operation-eq8.true)))
+    c.set_storage_key.ensures
 
-abbrev not-ssk : tie.Else4 → Reached entry stage
+abbrev not-ssk : tie.Else-operation-eq8 → Reached entry stage
 unfolding instruction not-ssm not-stctl not-mask
 not-ssk c =
     let here = not-mask c.before in
     reached here.start
     (rejected _ _ _ here.runs
-    (ne_eqb _ _ (λ e. c.if4.false ((code c.before.before).operation.ensures ∙ e))))
+    (ne_eqb _ _ (λ e. c.if-operation-eq8.false (c.operation-operation.ensures ∙ e))))
 
 -- ISK, which stores nothing
-returns-5 : tie.Need-returns-5
+returns-5 : tie.Need-returns-then-operation-eq9
 unfolding instruction not-ssm not-stctl not-mask not-ssk
 returns-5 c =
-    let call = c.before.before in
-    let test = call.before.before.before in
-    let here = not-ssk test.before in
+    let here = not-ssk c.before.before.before.before.before in
     let a = here.start.args in
-    continues call.insert-storage-key.result a.storage.now
-    call.insert-storage-key.new.1.0
+    continues c.insert_storage_key.result a.storage.now
+    c.insert_storage_key.new.keys
     (chosen _ _ _ here.runs
-    (eq-eqb _ _ (sym (code test.before.before.before).operation.ensures ∙ test.if5.true)))
-    call.insert-storage-key.ensures
+    (eq-eqb _ _ (sym c.operation-operation.ensures ∙ c.if-operation-eq9.true)))
+    c.insert_storage_key.ensures
 
-abbrev not-isk : tie.Else5 → Reached entry stage
+abbrev not-isk : tie.Else-operation-eq9 → Reached entry stage
 unfolding instruction not-ssm not-stctl not-mask not-ssk
 not-isk c =
     let here = not-ssk c.before in
     reached here.start
     (rejected _ _ _ here.runs
-    (ne_eqb _ _ (λ e. c.if5.false ((code c.before.before.before).operation.ensures ∙ e))))
+    (ne_eqb _ _ (λ e. c.if-operation-eq9.false (c.operation-operation.ensures ∙ e))))
 
 -- LRA, which stores nothing
-returns-6 : tie.Need-returns-6
+returns-6 : tie.Need-returns-then-operation-eq177
 unfolding instruction not-ssm not-stctl not-mask not-ssk not-isk
 returns-6 c =
-    let call = c.before.before in
-    let test = call.before.before.before in
-    let here = not-isk test.before in
+    let here = not-isk c.before.before.before.before.before in
     let a = here.start.args in
-    continues call.load-real-address.result a.storage.now
-    call.load-real-address.new.1.0
+    continues c.load_real_address.result a.storage.now
+    c.load_real_address.new.keys
     (chosen _ _ _ here.runs
-    (eq-eqb _ _ (sym (code test.before.before.before.before).operation.ensures ∙ test.if6.true)))
-    call.load-real-address.ensures
+    (eq-eqb _ _ (sym c.operation-operation.ensures ∙ c.if-operation-eq177.true)))
+    c.load_real_address.ensures
 
 -- RRB
-returns-7 : tie.Need-returns-7
+returns-7 : tie.Need-returns
 unfolding instruction not-ssm not-stctl not-mask not-ssk not-isk
 returns-7 c =
-    let call = c.before.before.before.before in
-    let test = call.before.before.before in
-    let here = not-isk test.before in
-    continues call.reset-reference-bit.result call.reset-reference-bit.new.0
-    call.reset-reference-bit.new.1.0
+    let here = not-isk c.before.before.before.before.before.before.before.before in
+    continues c.reset_reference_bit.result c.reset_reference_bit.new.storage
+    c.reset_reference_bit.new.keys
     (rejected _ _ _ here.runs
-    (ne_eqb _ _ (λ e. test.if6.false ((code test.before.before.before.before).operation.ensures ∙ e))))
-    call.reset-reference-bit.ensures
+    (ne_eqb _ _ (λ e. c.if-operation-eq177.false (c.operation-operation.ensures ∙ e))))
+    c.reset_reference_bit.ensures
 
-pub instruction-spec : {M : Type 1} → statement M
-instruction-spec =
+pub instruction_spec : {M : Type 1} → statement M
+instruction_spec =
     tie.close
     (tie.spec
     (λ c κs. search rules)

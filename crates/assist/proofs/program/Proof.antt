@@ -19,73 +19,70 @@ abbrev stage : tie.Start → Steps Completion
 stage c = program (length c.args.storage.now) (length c.args.keys.now) c.args.call
 
 -- 10
-abbrev storage : tie.After-is-wrong-storage → Tested entry stage
+abbrev storage : tie.After-is_wrong_storage → Tested entry stage
 unfolding admitted
 storage c =
-    let start = c.before.before.before.before in
-    tests start _ _ _ (begin (entry start) (stage start)) c.is-wrong-storage.result c.is-wrong-storage.ensures
+    tests c.before.before.before.before _ _ _ (begin (entry c.before.before.before.before) (stage c.before.before.before.before)) c.is_wrong_storage.result c.is_wrong_storage.ensures
 
-returns : tie.Need-returns
+returns : tie.Need-returns-then-is_wrong_storage
 unfolding admitted storage
-returns c = stopped_with _ (storage c.before) refl c.if1.true
+returns c = stopped_with _ (storage c.before) refl c.if-is_wrong_storage.true
 
 -- 11
-abbrev keys : tie.After-is-wrong-keys → Tested entry stage
+abbrev keys : tie.After-is_wrong_keys → Tested entry stage
 unfolding admitted storage
 keys c =
-    let here = passed (storage c.before.before) c.before.if1.false in
-    tests here.start _ _ _ here.runs c.is-wrong-keys.result c.is-wrong-keys.ensures
+    let here = passed (storage c.before.before) c.if-is_wrong_storage.false in
+    tests here.start _ _ _ here.runs c.is_wrong_keys.result c.is_wrong_keys.ensures
 
-returns-2 : tie.Need-returns-2
+returns-2 : tie.Need-returns-then-is_wrong_keys
 unfolding admitted storage keys
-returns-2 c = stopped_with _ (keys c.before) refl c.if2.true
+returns-2 c = stopped_with _ (keys c.before) refl c.if-is_wrong_keys.true
 
 -- 12
-abbrev odd : tie.After-is-odd → Tested entry stage
+abbrev odd : tie.After-is_odd → Tested entry stage
 unfolding admitted storage keys
 odd c =
-    let here = passed (keys c.before.before) c.before.if2.false in
+    let here = passed (keys c.before.before) c.if-is_wrong_keys.false in
     tests here.start _ _ _ here.runs c.is_odd.result c.is_odd.ensures
 
-returns-3 : tie.Need-returns-3
+returns-3 : tie.Need-returns-then-is_odd
 unfolding admitted storage keys odd
-returns-3 c = stopped_with _ (odd c.before) refl c.if3.true
+returns-3 c = stopped_with _ (odd c.before) refl c.if-is_odd.true
 
 -- 13
-abbrev assisted : tie.After-is-assisted → Tested entry stage
+abbrev assisted : tie.After-is_assisted → Tested entry stage
 unfolding admitted storage keys odd
 assisted c =
-    let here = passed (odd c.before.before) c.before.if3.false in
-    tests here.start _ _ _ here.runs (not c.is-assisted.result)
-    (ap not c.is-assisted.ensures)
+    let here = passed (odd c.before.before) c.if-is_odd.false in
+    tests here.start _ _ _ here.runs (not c.is_assisted.result)
+    (ap not c.is_assisted.ensures)
 
-returns-4 : tie.Need-returns-4
+returns-4 : tie.Need-returns-then-not-is_assisted
 unfolding admitted storage keys odd assisted
-returns-4 c = stopped_with _ (assisted c.before) refl c.if4.true
+returns-4 c = stopped_with _ (assisted c.before) refl (ap not c.if-not-is_assisted.true)
 
 -- 9
-abbrev mode : tie.After-is-wrong-mode → Tested entry stage
+abbrev mode : tie.After-is_wrong_mode → Tested entry stage
 unfolding admitted storage keys odd assisted
 mode c =
-    let here = passed (assisted c.before.before) c.before.if4.false in
-    tests here.start _ _ _ here.runs c.is-wrong-mode.result c.is-wrong-mode.ensures
+    let here = passed (assisted c.before.before) (ap not c.if-not-is_assisted.false) in
+    tests here.start _ _ _ here.runs c.is_wrong_mode.result c.is_wrong_mode.ensures
 
-returns-5 : tie.Need-returns-5
+returns-5 : tie.Need-returns-then-is_wrong_mode
 unfolding admitted storage keys odd assisted mode
-returns-5 c = stopped_with _ (mode c.before) refl c.if5.true
+returns-5 c = stopped_with _ (mode c.before) refl c.if-is_wrong_mode.true
 
 -- and then the instruction
-returns-6 : tie.Need-returns-6
+returns-6 : tie.Need-returns
 unfolding admitted storage keys odd assisted mode
 returns-6 c =
-    let call = c.before.before.before.before in
-    let test = call.before.before.before in
-    let here = passed (mode test.before) test.if5.false in
-    continues call.instruction.result call.instruction.new.0
-    call.instruction.new.1.0 here.runs call.instruction.ensures
+    let here = passed (mode c.before.before.before.before.before.before.before.before) c.if-is_wrong_mode.false in
+    continues c.instruction.result c.instruction.new.storage
+    c.instruction.new.keys here.runs c.instruction.ensures
 
-pub program-spec : {M : Type 1} → statement M
-program-spec =
+pub program_spec : {M : Type 1} → statement M
+program_spec =
     tie.close
     (tie.spec
     (λ c κs. search rules)

@@ -1,5 +1,4 @@
 use mathlib.Core.Path.{◌∙◌, ap}
-use borrow.Author.Rules.{rules}
 use Rattle.operations.proofs.Table.{apart, entry_apart}
 use Rattle.operations.proofs.operation_of.Goals as goal
 

@@ -5,7 +5,7 @@ use borrow.Author.Tests.{not-true, not-false}
 use Rattle.operations.proofs.Junctions.{neither_true}
 use Rattle.rules.specs.Machine.{Machine}
 use Rattle.rules.specs.Endings.{WrongMode, NotAssisted}
-use Rattle.rules.specs.Steps.{Steps, ◌>>=◌, ◌>>◌, stop_if}
+use Rattle.rules.specs.Steps.{Steps, ◌>>=◌, stop_if}
 use Rattle.rules.specs.Call.{Call, operation, Completion}
 use Rattle.rules.specs.SetSystemMask.{set_system_mask}
 use Rattle.rules.specs.StoreControl.{store_control}

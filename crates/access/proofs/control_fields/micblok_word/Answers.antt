@@ -1,4 +1,3 @@
-use Rattle.std.proofs.Common.{rules}
 use Rattle.access.proofs.control_fields.micblok_word.Goals as goal
 
 pub returns : goal.returns

@@ -1,4 +1,3 @@
-use Rattle.std.proofs.Common.{rules}
 use Rattle.access.proofs.logical.second_halfword.Goals as goal
 
 pub returns : goal.returns

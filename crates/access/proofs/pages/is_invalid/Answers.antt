@@ -1,4 +1,3 @@
-use Rattle.std.proofs.Common.{rules}
 use Rattle.access.proofs.pages.is_invalid.Goals as goal
 
 pub returns : goal.returns

@@ -1,4 +1,3 @@
-use Rattle.std.proofs.Common.{rules}
 use Rattle.access.proofs.pages.page_entry.Goals as goal
 
 pub returns : goal.returns

@@ -1,5 +1,4 @@
 use Rattle.access.proofs.Sizes as sizes
-use Rattle.std.proofs.Common.{rules}
 use Rattle.access.proofs.pages.page_index.Goals as goal
 
 pub returns : goal.returns

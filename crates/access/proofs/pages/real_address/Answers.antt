@@ -1,5 +1,5 @@
 use Rattle.access.proofs.Sizes as sizes
-use Rattle.std.proofs.Common.{◌/◌, arith, rules}
+use Rattle.std.proofs.Common.{◌/◌, arith}
 use Rattle.access.proofs.pages.real_address.Goals as goal
 
 pub nonzero_rem-result : goal.nonzero_rem-result

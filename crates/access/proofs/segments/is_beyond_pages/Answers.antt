@@ -1,4 +1,4 @@
-use Rattle.std.proofs.Common.{◌/◌, ◌%◌, ltb, ap, ◌∙◌, rules}
+use Rattle.std.proofs.Common.{◌/◌, ◌%◌, ltb, ap, ◌∙◌}
 use Rattle.access.proofs.Sizes.{leftmost_four}
 use Rattle.access.proofs.segments.is_beyond_pages.Goals as goal
 

@@ -1,4 +1,3 @@
-use Rattle.std.proofs.Common.{rules}
 use Rattle.access.proofs.segments.is_beyond_segments.Goals as goal
 
 pub returns : goal.returns

@@ -1,5 +1,4 @@
 use Rattle.access.proofs.Sizes.{segment_offset}
-use Rattle.std.proofs.Common.{rules}
 use Rattle.access.proofs.segments.segment_entry_at.Goals as goal
 
 pub overflow_mul-index : goal.overflow_mul-index

@@ -1,4 +1,3 @@
-use Rattle.std.proofs.Common.{rules}
 use Rattle.access.proofs.translation.excepted.Goals as goal
 
 pub returns-in-Found : goal.returns-in-Found

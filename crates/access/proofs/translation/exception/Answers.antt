@@ -1,4 +1,3 @@
-use Rattle.std.proofs.Common.{rules}
 use Rattle.access.proofs.translation.exception.Goals as goal
 
 pub returns-in-SegmentTableLength : goal.returns-in-SegmentTableLength

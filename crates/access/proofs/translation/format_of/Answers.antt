@@ -1,5 +1,5 @@
 use Rattle.storage.specs.Answers.{seen}
-use Rattle.std.proofs.Common.{rules, ne_eqb}
+use Rattle.std.proofs.Common.{ne_eqb}
 use Rattle.rules.specs.Steps.{◌>>=◌, stop_if}
 use Rattle.rules.specs.Translation.{format_of}
 use Rattle.access.proofs.translation.format_of.Goals as goal

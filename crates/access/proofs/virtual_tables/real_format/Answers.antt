@@ -1,4 +1,3 @@
-use Rattle.std.proofs.Common.{rules}
 use Rattle.access.proofs.virtual_tables.real_format.Goals as goal
 
 pub returns : goal.returns

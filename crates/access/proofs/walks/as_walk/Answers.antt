@@ -1,4 +1,3 @@
-use Rattle.std.proofs.Common.{rules}
 use Rattle.access.proofs.walks.as_walk.Goals as goal
 
 pub returns-in-Value : goal.returns-in-Value

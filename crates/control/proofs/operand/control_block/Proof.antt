@@ -18,39 +18,36 @@ abbrev stage : tie.Start → Steps ℕ
 stage c = control_block c.args.guest
 
 -- step 1
-abbrev assisted : tie.After-assists-control → Tested entry stage
+abbrev assisted : tie.After-assists_control → Tested entry stage
 unfolding control_block
 assisted c =
-    let start = c.before.before.before in
-    tests start _ _ _ (begin (entry start) (stage start)) (not c.assists-control.result)
-    (ap not c.assists-control.ensures)
+    tests c.before.before.before _ _ _ (begin (entry c.before.before.before) (stage c.before.before.before)) (not c.assists_control.result)
+    (ap not c.assists_control.ensures)
 
-returns : tie.Need-returns
+returns : tie.Need-returns-then-not-assists_control
 unfolding control_block assisted
-returns c = stopped (assisted c.before) c.if1.true
+returns c = stopped (assisted c.before) (ap not c.if-not-assists_control.true)
 
 -- step 2: MICCREG
-abbrev field : tie.After-micblok-word → Asked entry stage
+abbrev field : tie.After-micblok_word-field → Asked entry stage
 unfolding control_block assisted
 field c =
-    let on = c.before.before in
-    let here = passed (assisted on.before) on.if1.false in
-    asks here.start _ _ here.runs c.micblok-word.result here.start.args.storage.now
-    c.micblok-word.new.1.0 (fresh _ _ c.micblok-word.ensures)
+    let here = passed (assisted c.before.before.before) (ap not c.if-not-assists_control.false) in
+    asks here.start _ _ here.runs c.micblok_word-field.result here.start.args.storage.now
+    c.micblok_word-field.new.keys (fresh _ _ c.micblok_word-field.ensures)
 
-returns-2 : tie.Need-returns-2
+returns-2 : tie.Need-returns-in_default
 unfolding control_block assisted field
-returns-2 c = handed (field c.before.before.before.before) c.enum_told.given.1
+returns-2 c = handed (field c.before.before.before) c.in_default.is
 
-returns-3 : tie.Need-returns-3
+returns-3 : tie.Need-returns
 unfolding control_block assisted field
 returns-3 c =
-    let found = c.before.before in
-    simp c.address-in.ensures
-    (settles _ (given (field found.before.before.before.before) found.field.given.1).runs)
+    simp c.address_in.ensures
+    (settles _ (given (field c.before.before.before.before) c.in-Value.is).runs)
 
-pub control-block-spec : {M : Type 1} → statement M
-control-block-spec =
+pub control_block_spec : {M : Type 1} → statement M
+control_block_spec =
     tie.close
     (tie.spec
     (λ c κs. search rules)

@@ -17,38 +17,36 @@ abbrev stage : tie.Start → Steps ℕ
 stage c = word_operand c.args.guest
 
 -- step 3: the second halfword
-abbrev second : tie.After-second-halfword → Asked entry stage
+abbrev second : tie.After-second_halfword-second → Asked entry stage
 unfolding word_operand
 second c =
-    let start = c.before.before.before.before in
-    asks start _ _ (begin (entry start) (stage start)) c.second-halfword.result start.args.storage.now
-    c.second-halfword.new.1.0 (fresh _ _ c.second-halfword.ensures)
+    asks c.before.before.before.before _ _ (begin (entry c.before.before.before.before) (stage c.before.before.before.before)) c.second_halfword-second.result c.args.storage.now
+    c.second_halfword-second.new.keys (fresh _ _ c.second_halfword-second.ensures)
 
-returns : tie.Need-returns
+returns : tie.Need-returns-in_default
 unfolding word_operand second
-returns c = handed (second c.before.before.before.before) c.enum_told.given.1
+returns c = handed (second c.before.before.before) c.in_default.is
 
-abbrev halfword : tie.After-effective → Reached entry stage
+abbrev halfword : tie.After-effective-at → Reached entry stage
 unfolding word_operand second
 halfword c =
-    let found = c.before.before in
-    given (second found.before.before.before.before) found.second.given.1
+    given (second c.before.before.before.before) c.in-Value.is
 
 -- step 4
-returns-2 : tie.Need-returns-2
+returns-2 : tie.Need-returns-then-at-ne0
 unfolding word_operand second halfword
 returns-2 c =
     stops _ _ _ (halfword c.before).runs
-    (simp (ne_eqb _ _ (simp c.before.effective.ensures at c.if1.true)))
+    (simp (ne_eqb _ _ (simp c.effective-at.ensures at c.if-at-ne0.true)))
 
-returns-3 : tie.Need-returns-3
+returns-3 : tie.Need-returns
 unfolding word_operand second halfword
 returns-3 c =
-    let at = c.before.effective.ensures in
-    simp at (settles _ (pass _ _ _ (halfword c.before).runs (simp (eq-eqb _ _ (simp at at c.if1.false)))))
+    let at = c.effective-at.ensures in
+    simp at (settles _ (pass _ _ _ (halfword c.before).runs (simp (eq-eqb _ _ (simp at at c.if-at-ne0.false)))))
 
-pub word-operand-spec : {M : Type 1} → statement M
-word-operand-spec =
+pub word_operand_spec : {M : Type 1} → statement M
+word_operand_spec =
     tie.close
     (tie.spec
     (λ c κs. search rules)

@@ -26,149 +26,126 @@ abbrev wanted : tie.Start → ℕ
 wanted c = register_count (r1 c.args.call) (r3 c.args.call)
 
 -- steps 1 and 2
-abbrev block : tie.After-control-block → Asked entry stage
+abbrev block : tie.After-control_block-field → Asked entry stage
 unfolding store_control
 block c =
-    let start = c.before.before.before.before.before.before in
-    asks start _ _ (begin (entry start) (stage start)) c.control-block.result start.args.storage.now
-    c.control-block.new.1.0 (fresh _ _ c.control-block.ensures)
+    asks c.before.before.before.before.before _ _ (begin (entry c.before.before.before.before.before) (stage c.before.before.before.before.before)) c.control_block-field.result c.args.storage.now
+    c.control_block-field.new.keys (fresh _ _ c.control_block-field.ensures)
 
-returns : tie.Need-returns
+returns : tie.Need-returns-in_default
 unfolding store_control block
 returns c =
-    let asked = block c.before.before.before.before.before in
+    let asked = block c.before.before.before.before in
     ended_with c.ending.result asked c.ending.ensures
-    c.before.enum_told.given.1
+    c.in_default.is
 
 -- steps 3 and 4
-abbrev operand : tie.After-after → Asked entry stage
+abbrev operand : tie.After-after-operand → Asked entry stage
 unfolding store_control block
 operand c =
-    let call = c.before.before.before in
-    let found = call.before.before.before.before in
-    let here = given (block found.before.before.before.before) found.field.given.1 in
-    asks_after here.start _ _ here.runs call.word-operand.result c.after.result
-    here.start.args.storage.now call.word-operand.new.1.0 c.after.ensures
-    call.word-operand.ensures
+    let here = given (block c.before.before.before.before.before.before.before.before) c.in-Value.is in
+    asks_after here.start _ _ here.runs c.word_operand.result c.after-operand.result
+    here.start.args.storage.now c.word_operand.new.keys c.after-operand.ensures
+    c.word_operand.ensures
 
-returns-2 : tie.Need-returns-2
+returns-2 : tie.Need-returns-in_default-operand
 unfolding store_control block operand
 returns-2 c =
-    let asked = operand c.before.before.before in
-    ended_with c.ending2.result asked c.ending2.ensures
-    c.before.enum-told2.given.1
+    let asked = operand c.before.before in
+    ended_with c.ending-in_default-operand.result asked c.ending-in_default-operand.ensures
+    c.in_default-operand.is
 
-abbrev address : tie.After-register-count → Reached entry stage
+abbrev address : tie.After-register_count-n → Reached entry stage
 unfolding store_control block operand
 address c =
-    let found = c.before.before.before.before in
-    given (operand found.before.before) found.operand.given.1
+    given (operand c.before.before.before.before) c.in-Value-operand.is
 
 -- how many registers
-counted : (c : tie.After-register-count) → c.register-count.result ≡ wanted (address c).start
+counted : (c : tie.After-register_count-n) → c.register_count-n.result ≡ wanted (address c).start
 unfolding store_control block operand address
-counted c = simp (c.before.before.r1.ensures, c.before.r2.ensures) at c.register-count.ensures.0
+counted c = simp (c.r1-first.ensures, c.r2.ensures) at c.register_count-n.ensures.0
 
--- step 5: the registers
-abbrev number : tie.After-after2 → tie.After-register-count
-number c = c.before.before.before.before.before.before
-
-abbrev registers : tie.After-after2 → AskedWords entry stage
+abbrev registers : tie.After-after-last → AskedWords entry stage
 unfolding store_control block operand address
 registers c =
-    let call = c.before.before.before in
-    let here = address (number c) in
-    asks_words here.start _ _ here.runs (wanted here.start) call.virtual-registers.result
-    c.after2.result here.start.args.storage.now call.virtual-registers.new.1.0 c.after2.ensures
-    (simp (counted (number c), (number c).before.before.r1.ensures) at call.virtual-registers.ensures.0)
+    let here = address c.before.before.before.before.before in
+    asks_words here.start _ _ here.runs (wanted here.start) c.virtual_registers-registers.result
+    c.after-last.result here.start.args.storage.now c.virtual_registers-registers.new.keys c.after-last.ensures
+    (simp (counted c.before.before.before.before.before, c.r1-first.ensures) at c.virtual_registers-registers.ensures.0)
 
-same-length-6 : tie.Need-same-length-6
+same-length-6 : tie.Need-shape_of-keys-in_default-last
 unfolding store_control block operand address
 same-length-6 c =
-    let at = c.before.before.before in
-    at.before.before.before.virtual-registers.auto.1.0 ∙ reached_keys (address (number at))
+    c.virtual_registers-registers.auto.keys ∙ reached_keys (address c.before.before.before.before.before.before.before)
 
-returns-3 : tie.Need-returns-3
+returns-3 : tie.Need-returns-in_default-last
 unfolding store_control block operand address registers
 returns-3 c =
-    let asked = registers c.before.before.before in
-    ended_without c.ending3.result asked c.ending3.ensures
-    c.before.enum-told3.given.1
+    let asked = registers c.before.before in
+    ended_without c.ending-in_default-last.result asked c.ending-in_default-last.ensures
+    c.in_default-last.is
 
--- and the operand words
-abbrev fetched : tie.After-after3 → tie.After-after2
-fetched c = c.before.before.before.before.before.before.before.before.before
-
-abbrev values : tie.After-after3 → Reached entry stage
+abbrev values : tie.After-after-end → Reached entry stage
 unfolding store_control block operand address registers
 values c =
-    let found = c.before.before.before.before.before.before.before in
-    given_words (registers (fetched c)) found.last.given.1
+    given_words (registers c.before.before.before.before.before.before) c.in-Value-last.is
 
-abbrev words : tie.After-after3 → AskedWords entry stage
+abbrev words : tie.After-after-end → AskedWords entry stage
 unfolding store_control block operand address registers values
 words c =
-    let call = c.before.before.before in
     let here = values c in
-    asks_words here.start _ _ here.runs (wanted here.start) call.operand-words.result
-    c.after3.result here.start.args.storage.now call.operand-words.new.1.0 c.after3.ensures
-    (simp (counted (number (fetched c))) at call.operand-words.ensures.0)
+    asks_words here.start _ _ here.runs (wanted here.start) c.operand_words-words.result
+    c.after-end.result here.start.args.storage.now c.operand_words-words.new.keys c.after-end.ensures
+    (simp (counted c.before.before.before.before.before.before.before.before.before.before.before) at c.operand_words-words.ensures.0)
 
-same-length-8 : tie.Need-same-length-8
+same-length-8 : tie.Need-shape_of-keys-in_default-end
 unfolding store_control block operand address registers values
 same-length-8 c =
-    let at = c.before.before.before in
-    at.before.before.before.operand-words.auto.1.0 ∙ reached_keys (values at)
+    c.operand_words-words.auto.keys ∙ reached_keys (values c.before.before)
 
-returns-4 : tie.Need-returns-4
+returns-4 : tie.Need-returns-in_default-end
 unfolding store_control block operand address registers values words
 returns-4 c =
-    let asked = words c.before.before.before in
-    ended_without c.ending4.result asked c.ending4.ensures
-    c.before.enum-told4.given.1
+    let asked = words c.before.before in
+    ended_without c.ending-in_default-end.result asked c.ending-in_default-end.ensures
+    c.in_default-end.is
 
 -- and only then the stores: as many as registers
-stored : (c : tie.After-register-count) (reals values : List ℕ) → length reals ≡ 16 → length values ≡ 16
-    → let n = c.register-count.result in length (word_stores (take n reals) (take n values)) ≡ n
+stored : (c : tie.After-register_count-n) (reals values : List ℕ) → length reals ≡ 16 → length values ≡ 16
+    → let n = c.register_count-n.result in length (word_stores (take n reals) (take n values)) ≡ n
 stored c reals values h k =
-    let n = c.register-count.result in
-    let small : n ≤ 16 = c.register-count.ensures.1 in
+    let n = c.register_count-n.result in
+    let small : n ≤ 16 = c.register_count-n.ensures.1 in
     let e : length (take n reals) ≡ n = simp length-take (omega arith) in
     let f : length (take n values) ≡ n = simp length-take (omega arith) in
     stores_length (take n reals) (take n values) (e ∙ sym f) ∙ e
 
-abbrev tested : tie.After-store-words → tie.After-after3
-tested c = c.before.before.before.before.before.before.before.before
-
-abbrev reals : tie.After-store-words → Reached entry stage
+abbrev reals : tie.After-store_words → Reached entry stage
 unfolding store_control block operand address registers values words
-reals c = given_words (words (tested c)) c.before.before.before.before.before.before.end.given.1
+reals c = given_words (words c.before.before.before.before.before.before) c.in-Value-end.is
 
-same-length-10 : tie.Need-same-length-10
+same-length-10 : tie.Need-shape_of-keys
 unfolding store_control block operand address registers values words reals
 same-length-10 c =
-    let put = c.before.before.before.before.before in
-    put.store_words_lem.auto.1.0 ∙ reached_keys (reals put)
+    c.store_words.auto.keys ∙ reached_keys (reals c.before.before.before.before.before)
 
-returns-5 : tie.Need-returns-5
+returns-5 : tie.Need-returns
 unfolding store_control block operand address registers values words reals
 returns-5 c =
-    let put = c.before.before.before.before.before in
-    let at = tested put in
-    let here = reals put in
-    let to = at.before.before.before.operand-words in
-    let from = (fetched at).before.before.before.virtual-registers in
-    let n = number (fetched at) in
+    let here = reals c.before.before.before.before.before in
+    let to = c.operand_words-words in
+    let from = c.virtual_registers-registers in
+    let n = c.before.before.before.before.before.before.before.before.before.before.before.before.before.before.before.before.before.before.before.before.before.before in
     let e = counted n in
-    completes c.completed.result put.store_words_lem.new.0
-    put.store_words_lem.new.1.0 _ here.runs
+    completes c.completed.result c.store_words.new.storage
+    c.store_words.new.keys _ here.runs
     (c.completed.ensures ∙ ap (completion here.count)
     (sym (stored n to.result.words from.result.words to.ensures.1 from.ensures.1)
-    ∙ ap (λ n. length (word_stores (take n to.result.words) (take n from.result.words))) e))
-    (simp e at put.store_words_lem.ensures)
+    ∙ ap (λ k. length (word_stores (take k to.result.words) (take k from.result.words))) e))
+    (simp e at c.store_words.ensures)
 
-pub store-control-spec : {M : Type 1} → statement M
-store-control-spec =
+pub store_control_spec : {M : Type 1} → statement M
+store_control_spec =
     tie.close
     (tie.spec
     (λ c κs. search rules)

@@ -17,93 +17,80 @@ abbrev stage : tie.Start → Steps ℕ
 stage c = mask_target c.args.call c.args.new
 
 -- step 7: MICVPSW
-abbrev field : tie.After-micblok-word → Asked entry stage
+abbrev field : tie.After-micblok_word-field → Asked entry stage
 unfolding mask_target
 field c =
-    let start = c.before.before.before.before.before in
-    asks start _ _ (begin (entry start) (stage start)) c.micblok-word.result start.args.storage.now
-    c.micblok-word.new.1.0 (fresh _ _ c.micblok-word.ensures)
+    asks c.before.before.before.before.before _ _ (begin (entry c.before.before.before.before.before) (stage c.before.before.before.before.before)) c.micblok_word-field.result c.args.storage.now
+    c.micblok_word-field.new.keys (fresh _ _ c.micblok_word-field.ensures)
 
-returns : tie.Need-returns
+returns : tie.Need-returns-in_default
 unfolding mask_target field
-returns c = handed (field c.before.before.before.before) c.enum_told.given.1
+returns c = handed (field c.before.before.before) c.in_default.is
 
-abbrev vpsw : tie.After-known-told → Reached entry stage
+abbrev vpsw : tie.In-Value → Reached entry stage
 unfolding mask_target field
-vpsw c = given (field c.before.before.before.before.before) c.before.field.given.1
-
-abbrev address : tie.After-after → tie.After-address-in
-address c = c.before.before.before.before.before
+vpsw c = given (field c.before.before.before) c.in-Value.is
 
 -- step 8: the first halfword of the virtual PSW
-abbrev halfword : tie.After-after → Asked entry stage
+abbrev halfword : tie.After-after-halfword → Asked entry stage
 unfolding mask_target field vpsw
 halfword c =
-    let call = c.before.before.before in
-    let at = address c in
-    let here = vpsw at.before in
+    let here = vpsw c.before.before.before.before.before.before in
     let s = here.start.args.storage.now in
-    let ks = call.control-halfword.new.1.0 in
-    asks here.start _ _ here.runs c.after.result s ks
-    (waited call.control-halfword.result c.after.result _ s ks _ _ c.after.ensures
-    (simp at.address-in.ensures at call.control-halfword.ensures))
+    let ks = c.control_halfword.new.keys in
+    asks here.start _ _ here.runs c.after-halfword.result s ks
+    (waited c.control_halfword.result c.after-halfword.result _ s ks _ _ c.after-halfword.ensures
+    (simp c.address_in-at.ensures at c.control_halfword.ensures))
 
-returns-2 : tie.Need-returns-2
+returns-2 : tie.Need-returns-in_default-halfword
 unfolding mask_target field vpsw halfword
-returns-2 c = handed (halfword c.before.before) c.enum-told2.given.1
+returns-2 c = handed (halfword c.before) c.in_default-halfword.is
 
-abbrev first : tie.After-known-told2 → Reached entry stage
+abbrev first : tie.In-Value-halfword → Reached entry stage
 unfolding mask_target field vpsw halfword
-first c = given (halfword c.before.before.before) c.before.halfword.given.1
+first c = given (halfword c.before) c.in-Value-halfword.is
 
 -- step 9 in the EC mode
-abbrev extended : tie.After-mask-needs-expanded → Tested entry stage
+abbrev extended : tie.After-mask_needs_expanded → Tested entry stage
 unfolding mask_target field vpsw halfword first
 extended c =
-    let pending = c.before.before in
-    let mode = pending.before in
-    let here = first mode.before in
-    tests here.start _ _ _ here.runs (mode.is-extended.result && c.mask-needs-expanded.result)
+    let here = first c.before.before.before.before in
+    tests here.start _ _ _ here.runs (c.is_extended-ec.result && c.mask_needs_expanded.result)
     (simp (
-      mode.is-extended.ensures,
-      c.mask-needs-expanded.ensures,
-      pending.is-pending.ensures,
-      c.before.mask-in.ensures.0,
+      c.is_extended-ec.ensures,
+      c.mask_needs_expanded.ensures,
+      c.is_pending-pending.ensures,
+      c.mask_in-old.ensures.0,
     ))
 
-returns-3 : tie.Need-returns-3
+returns-3 : tie.Need-returns-then-ec-mask_needs_expanded
 unfolding mask_target field vpsw halfword first extended
-returns-3 c = simp c.expanded.ensures (stopped (extended c.before.before) c.before.if1.true)
+returns-3 c = simp c.expanded.ensures (stopped (extended c.before.before) c.if-ec-mask_needs_expanded.true)
 
 -- and in the BC mode
-abbrev basic : tie.After-any-rises-pending → Tested entry stage
+abbrev basic : tie.After-any_rises_pending → Tested entry stage
 unfolding mask_target field vpsw halfword first extended
 basic c =
-    let ec = c.before.before in
-    let pending = ec.before.before in
-    let mode = pending.before in
-    let here = passed (extended ec) c.before.if1.false in
-    tests here.start _ _ _ here.runs (not mode.is-extended.result && c.any-rises-pending.result)
+    let here = passed (extended c.before.before) c.if-ec-mask_needs_expanded.false in
+    tests here.start _ _ _ here.runs (not c.is_extended-ec.result && c.any_rises_pending.result)
     (simp (
-      mode.is-extended.ensures,
-      c.any-rises-pending.ensures,
-      pending.is-pending.ensures,
-      ec.before.mask-in.ensures.0,
+      c.is_extended-ec.ensures,
+      c.any_rises_pending.ensures,
+      c.is_pending-pending.ensures,
+      c.mask_in-old.ensures.0,
     ))
 
-returns-4 : tie.Need-returns-4
+returns-4 : tie.Need-returns-then-ec-any_rises_pending
 unfolding mask_target field vpsw halfword first extended basic
-returns-4 c = stopped (basic c.before) c.if2.true
+returns-4 c = stopped (basic c.before) c.if-ec-any_rises_pending.true
 
-returns-5 : tie.Need-returns-5
+returns-5 : tie.Need-returns
 unfolding mask_target field vpsw halfword first extended basic
 returns-5 c =
-    let test = c.before in
-    let at = address test.before.before.before.before.before.before.before.before.before in
-    simp at.address-in.ensures (settles _ (passed (basic test) c.if2.false).runs)
+    simp c.address_in-at.ensures (settles _ (passed (basic c.before) c.if-ec-any_rises_pending.false).runs)
 
-pub mask-target-spec : {M : Type 1} → statement M
-mask-target-spec =
+pub mask_target_spec : {M : Type 1} → statement M
+mask_target_spec =
     tie.close
     (tie.spec
     (λ c κs. search rules)

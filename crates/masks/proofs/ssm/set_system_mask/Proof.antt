@@ -18,57 +18,51 @@ abbrev stage : tie.Start → Steps Completion
 stage c = set_system_mask c.args.call
 
 -- steps 1 to 6
-abbrev operand : tie.After-mask-operand → Asked entry stage
+abbrev operand : tie.After-mask_operand-operand → Asked entry stage
 unfolding set_system_mask
 operand c =
-    let start = c.before.before.before.before.before.before in
-    asks start _ _ (begin (entry start) (stage start)) c.mask-operand.result start.args.storage.now
-    c.mask-operand.new.1.0 (fresh _ _ c.mask-operand.ensures)
+    asks c.before.before.before.before.before _ _ (begin (entry c.before.before.before.before.before) (stage c.before.before.before.before.before)) c.mask_operand-operand.result c.args.storage.now
+    c.mask_operand-operand.new.keys (fresh _ _ c.mask_operand-operand.ensures)
 
-returns : tie.Need-returns
+returns : tie.Need-returns-in_default
 unfolding set_system_mask operand
 returns c =
-    let asked = operand c.before.before.before.before.before in
+    let asked = operand c.before.before.before.before in
     ended_with c.ending.result asked c.ending.ensures
-    c.before.enum_told.given.1
+    c.in_default.is
 
 -- steps 7 to 9
-abbrev target : tie.After-after → Asked entry stage
+abbrev target : tie.After-after-target → Asked entry stage
 unfolding set_system_mask operand
 target c =
-    let call = c.before.before.before in
-    let found = call.before.before.before.before in
-    let here = given (operand found.before.before.before.before) found.operand.given.1 in
-    asks_after here.start _ _ here.runs call.mask-target.result c.after.result
-    here.start.args.storage.now call.mask-target.new.1.0 c.after.ensures call.mask-target.ensures
+    let here = given (operand c.before.before.before.before.before.before.before.before) c.in-Value.is in
+    asks_after here.start _ _ here.runs c.mask_target.result c.after-target.result
+    here.start.args.storage.now c.mask_target.new.keys c.after-target.ensures c.mask_target.ensures
 
-returns-2 : tie.Need-returns-2
+returns-2 : tie.Need-returns-in_default-target
 unfolding set_system_mask operand target
 returns-2 c =
-    let asked = target c.before.before.before in
-    ended_with c.ending2.result asked c.ending2.ensures
-    c.before.enum-told2.given.1
+    let asked = target c.before.before in
+    ended_with c.ending-in_default-target.result asked c.ending-in_default-target.ensures
+    c.in_default-target.is
 
 -- step 10: the virtual PSW was fetched, so its first byte is there
-put-mask-requires : tie.Need-put-mask-requires
+put-mask-requires : tie.Need-put_mask-requires
 unfolding set_system_mask operand target
 put-mask-requires c κs =
-    let found = c.before.before.before in
-    let asked = target found.before.before in
-    sure _ asked found.target.given.1
+    let asked = target c.before.before.before in
+    sure _ asked c.in-Value-target.is
     (mask_target-gives (length asked.left.storage) (length asked.left.keys) _ _)
 
-returns-3 : tie.Need-returns-3
+returns-3 : tie.Need-returns
 unfolding set_system_mask operand target
 returns-3 c =
-    let put = c.before.before.before.before.before in
-    let found = put.before.before.before.before in
-    let here = given (target found.before.before) found.target.given.1 in
-    completes c.completed.result put.put-mask.new.0 put.put-mask.new.1.0 _
-    here.runs c.completed.ensures put.put-mask.ensures
+    let here = given (target c.before.before.before.before.before.before.before.before.before) c.in-Value-target.is in
+    completes c.completed.result c.put_mask.new.storage c.put_mask.new.keys _
+    here.runs c.completed.ensures c.put_mask.ensures
 
-pub set-system-mask-spec : {M : Type 1} → statement M
-set-system-mask-spec =
+pub set_system_mask_spec : {M : Type 1} → statement M
+set_system_mask_spec =
     tie.close
     (tie.spec
     (λ c κs. search rules)

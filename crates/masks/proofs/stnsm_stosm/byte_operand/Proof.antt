@@ -16,34 +16,30 @@ abbrev stage : tie.Start → Steps ℕ
 stage c = byte_operand c.args.guest
 
 -- step 5: the second halfword, every ending of which refuses
-abbrev second : tie.After-or-refuse → Asked entry stage
+abbrev second : tie.After-or_refuse-second → Asked entry stage
 unfolding byte_operand
 second c =
-    let call = c.before.before.before in
-    let start = call.before.before.before.before in
-    let s = start.args.storage.now in
-    let ks = call.second-halfword.new.1.0 in
-    asks start _ _ (begin (entry start) (stage start)) c.or-refuse.result s ks
-    (fresh _ _ (refuses call.second-halfword.result c.or-refuse.result s ks _ _ c.or-refuse.ensures
-    call.second-halfword.ensures))
+    let s = c.args.storage.now in
+    let ks = c.second_halfword.new.keys in
+    asks c.before.before.before.before.before.before.before _ _ (begin (entry c.before.before.before.before.before.before.before) (stage c.before.before.before.before.before.before.before)) c.or_refuse-second.result s ks
+    (fresh _ _ (refuses c.second_halfword.result c.or_refuse-second.result s ks _ _ c.or_refuse-second.ensures
+    c.second_halfword.ensures))
 
-returns : tie.Need-returns
+returns : tie.Need-returns-in_default
 unfolding byte_operand second
-returns c = handed (second c.before.before) c.enum_told.given.1
+returns c = handed (second c.before) c.in_default.is
 
 -- step 6: the store test
-returns-2 : tie.Need-returns-2
+returns-2 : tie.Need-returns
 unfolding byte_operand second
 returns-2 c =
-    let call = c.before.before.before in
-    let found = call.before.before.before.before in
-    let here = given (second found.before.before) found.second.given.1 in
-    last_after _ here.runs call.store-test.result c.after.result here.start.args.storage.now
-    call.store-test.new.1.0 c.after.ensures
-    (simp call.before.effective.ensures at call.store-test.ensures)
+    let here = given (second c.before.before.before.before.before.before.before) c.in-Value.is in
+    last_after _ here.runs c.store_test.result c.after.result here.start.args.storage.now
+    c.store_test.new.keys c.after.ensures
+    (simp c.effective.ensures at c.store_test.ensures)
 
-pub byte-operand-spec : {M : Type 1} → statement M
-byte-operand-spec =
+pub byte_operand_spec : {M : Type 1} → statement M
+byte_operand_spec =
     tie.close
     (tie.spec
     (λ c κs. search rules)

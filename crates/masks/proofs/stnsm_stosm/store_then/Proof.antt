@@ -37,176 +37,140 @@ abbrev stage : tie.Start → Steps Completion
 stage c = store_then c.args.change c.args.call
 
 -- step 1
-abbrev assisted : tie.After-assists-control → Tested entry stage
+abbrev assisted : tie.After-assists_control → Tested entry stage
 unfolding store_then
 assisted c =
-    let start = c.before.before.before.before in
-    tests start _ _ _ (begin (entry start) (stage start)) (not c.assists-control.result)
-    (ap not c.assists-control.ensures)
+    tests c.before.before.before.before _ _ _ (begin (entry c.before.before.before.before) (stage c.before.before.before.before)) (not c.assists_control.result)
+    (ap not c.assists_control.ensures)
 
-returns : tie.Need-returns
+returns : tie.Need-returns-then-not-assists_control
 unfolding store_then assisted
 returns c =
     let test = assisted c.before.before in
-    stopped_with c.ending.result test c.ending.ensures c.before.if1.true
+    stopped_with c.ending.result test c.ending.ensures (ap not c.if-not-assists_control.true)
 
 -- step 2: MICVPSW
-abbrev field : tie.After-micblok-word → Asked entry stage
+abbrev field : tie.After-micblok_word-field → Asked entry stage
 unfolding store_then assisted
 field c =
-    let on = c.before.before.before in
-    let here = passed (assisted on.before) on.if1.false in
-    asks here.start _ _ here.runs c.micblok-word.result here.start.args.storage.now
-    c.micblok-word.new.1.0 (fresh _ _ c.micblok-word.ensures)
+    let here = passed (assisted c.before.before.before) (ap not c.if-not-assists_control.false) in
+    asks here.start _ _ here.runs c.micblok_word-field.result here.start.args.storage.now
+    c.micblok_word-field.new.keys (fresh _ _ c.micblok_word-field.ensures)
 
-returns-2 : tie.Need-returns-2
+returns-2 : tie.Need-returns-in_default
 unfolding store_then assisted field
 returns-2 c =
-    let asked = field c.before.before.before.before.before in
-    ended_with c.ending2.result asked c.ending2.ensures
-    c.before.enum_told.given.1
+    let asked = field c.before.before.before.before in
+    ended_with c.ending-in_default.result asked c.ending-in_default.ensures
+    c.in_default.is
 
--- step 3: the first halfword of the virtual PSW
-abbrev address : tie.After-after → tie.After-address-in
-address c = c.before.before.before.before.before.before
-
-abbrev halfword : tie.After-after → Asked entry stage
+abbrev halfword : tie.After-after-halfword → Asked entry stage
 unfolding store_then assisted field
 halfword c =
-    let call = c.before.before.before in
-    let at = address c in
-    let found = at.before.before in
-    let here = given (field found.before.before.before.before) found.field.given.1 in
-    asks_after here.start _ _ here.runs call.control-halfword.result c.after.result
-    here.start.args.storage.now call.control-halfword.new.1.0 c.after.ensures
-    (simp at.address-in.ensures at call.control-halfword.ensures)
+    let here = given (field c.before.before.before.before.before.before.before.before.before) c.in-Value.is in
+    asks_after here.start _ _ here.runs c.control_halfword.result c.after-halfword.result
+    here.start.args.storage.now c.control_halfword.new.keys c.after-halfword.ensures
+    (simp c.address_in-at.ensures at c.control_halfword.ensures)
 
-returns-3 : tie.Need-returns-3
+returns-3 : tie.Need-returns-in_default-halfword
 unfolding store_then assisted field halfword
 returns-3 c =
-    let asked = halfword c.before.before.before in
-    ended_with c.ending3.result asked c.ending3.ensures
-    c.before.enum-told2.given.1
+    let asked = halfword c.before.before in
+    ended_with c.ending-in_default-halfword.result asked c.ending-in_default-halfword.ensures
+    c.in_default-halfword.is
 
 -- step 4
-abbrev first : tie.After-known-told2 → Reached entry stage
+abbrev first : tie.In-Value-halfword → Reached entry stage
 unfolding store_then assisted field halfword
-first c = given (halfword c.before.before.before) c.before.halfword.given.1
+first c = given (halfword c.before) c.in-Value-halfword.is
 
-abbrev masked : tie.After-new-mask → tie.After-mask-in
-masked c = c.before.before
-
-changed : (c : tie.After-new-mask)
-    → let found = (masked c).before.before in
-    let a = (first (masked c).before).start.args in
-    c.new-mask.result ≡ new_mask a.change (mask_in found.halfword.given.0.0) (immediate a.call)
+changed : (c : tie.After-new_mask-new)
+    → let a = (first c.before.before.before).start.args in
+    c.new_mask-new.result ≡ new_mask a.change (mask_in c.in-Value-halfword.first) (immediate a.call)
 unfolding store_then assisted field halfword first
 changed c =
-    simp ((masked c).mask-in.ensures.0, c.before.immediate.ensures) at c.new-mask.ensures
+    simp (c.mask_in-old.ensures.0, c.immediate.ensures) at c.new_mask-new.ensures
 
-abbrev expands : tie.After-needs-expanded → Tested entry stage
+abbrev expands : tie.After-needs_expanded → Tested entry stage
 unfolding store_then assisted field halfword first
 expands c =
-    let mode = c.before.before in
-    let old = masked mode.before in
-    let here = first old.before in
-    tests here.start _ _ _ here.runs c.needs-expanded.result
+    let here = first c.before.before.before.before.before.before in
+    tests here.start _ _ _ here.runs c.needs_expanded.result
     (simp (
-      mode.is-extended.ensures,
-      c.before.is-pending.ensures,
-      old.mask-in.ensures.0,
-      changed mode.before,
-    ) at c.needs-expanded.ensures)
+      c.is_extended.ensures,
+      c.is_pending.ensures,
+      c.mask_in-old.ensures.0,
+      changed c.before.before.before,
+    ) at c.needs_expanded.ensures)
 
-same-length-6 : tie.Need-same-length-6
+same-length-6 : tie.Need-shape_of-keys-then-needs_expanded
 unfolding store_then assisted field halfword first
 same-length-6 c = reached_keys (first c.before.before.before.before.before.before.before.before.before)
 
-returns-4 : tie.Need-returns-4
+returns-4 : tie.Need-returns-then-needs_expanded
 unfolding store_then assisted field halfword first expands
 returns-4 c =
-    let test = c.before.before in
-    let asked = expands test.before in
-    stopped_with c.ending4.result asked
-    (simp c.before.expanded.ensures at c.ending4.ensures) test.if2.true
+    let asked = expands c.before.before.before in
+    stopped_with c.ending-then-needs_expanded.result asked
+    (simp c.expanded.ensures at c.ending-then-needs_expanded.ensures) c.if-needs_expanded.true
 
 -- steps 5 and 6: the operand
-abbrev operand : tie.After-after2 → Asked entry stage
+abbrev operand : tie.After-after-operand → Asked entry stage
 unfolding store_then assisted field halfword first expands
 operand c =
-    let call = c.before.before.before in
-    let test = call.before.before.before in
-    let here = passed (expands test.before) test.if2.false in
-    asks_after here.start _ _ here.runs call.byte-operand.result c.after2.result
-    here.start.args.storage.now call.byte-operand.new.1.0 c.after2.ensures
-    call.byte-operand.ensures
+    let here = passed (expands c.before.before.before.before.before.before) c.if-needs_expanded.false in
+    asks_after here.start _ _ here.runs c.byte_operand.result c.after-operand.result
+    here.start.args.storage.now c.byte_operand.new.keys c.after-operand.ensures
+    c.byte_operand.ensures
 
-same-length-8 : tie.Need-same-length-8
+same-length-8 : tie.Need-shape_of-keys-in_default-operand
 unfolding store_then assisted field halfword first
 same-length-8 c =
-    let call = c.before.before.before.before.before.before in
-    let found = call.before.before.before.before.before.before.before.before.before.before in
-    call.byte-operand.auto.1.0 ∙ reached_keys (first found)
+    c.byte_operand.auto.keys ∙ reached_keys (first c.before.before.before.before.before.before.before.before.before.before.before.before.before.before)
 
-returns-5 : tie.Need-returns-5
+returns-5 : tie.Need-returns-in_default-operand
 unfolding store_then assisted field halfword first expands operand
 returns-5 c =
-    let asked = operand c.before.before.before in
-    ended_with c.ending5.result asked c.ending5.ensures
-    c.before.enum-told3.given.1
+    let asked = operand c.before.before in
+    ended_with c.ending-in_default-operand.result asked c.ending-in_default-operand.ensures
+    c.in_default-operand.is
 
 -- step 7: the old mask, then the new one, where the first halfword was fetched
-put-mask-requires : tie.Need-put-mask-requires
+put-mask-requires : tie.Need-put_mask-requires
 unfolding store_then assisted field halfword
 put-mask-requires c κs =
-    let put = c.before.before.before.before.before.before in
-    let call = put.before.before.before.before.before.before.before.before.before in
-    let mask = call.before.before.before.before.before.before.before in
-    let found = (masked mask).before.before in
-    let after = found.before.before in
-    let asked = halfword after in
+    let asked = halfword c.before.before.before.before.before.before.before.before.before.before.before.before.before.before.before.before.before.before.before.before.before.before.before in
     let s = length asked.left.storage in
-    let fetched = sure _ asked found.halfword.given.1 (fetch_bytes-gives s (length asked.left.keys) _ 2 _) in
+    let fetched = sure _ asked c.in-Value-halfword.is (fetch_bytes-gives s (length asked.left.keys) _ 2 _) in
     let there = first_there s _ 1 fetched in
-    omega (arith, there, (address after).address-in.ensures, put.IsStore-byte.auto.0)
+    omega (arith, there, c.address_in-at.ensures, c.store_byte.auto.storage)
 
-abbrev stored : tie.After-put-mask → tie.After-store-byte
-stored c = c.before.before.before.before.before.before.before
-
-abbrev real : tie.After-store-byte → Reached entry stage
+abbrev real : tie.After-store_byte → Reached entry stage
 unfolding store_then assisted field halfword first expands operand
 real c =
-    let found = c.before.before.before.before in
-    given (operand found.before.before) found.operand.given.1
+    given (operand c.before.before.before.before) c.in-Value-operand.is
 
-same-length-10 : tie.Need-same-length-10
+same-length-10 : tie.Need-shape_of-keys
 unfolding store_then assisted field halfword first expands operand real
 same-length-10 c =
-    let put = c.before.before.before.before.before in
-    put.put-mask.auto.1.0 ∙ (stored put).IsStore-byte.auto.1.0 ∙ reached_keys (real (stored put))
+    c.put_mask.auto.keys ∙ c.store_byte.auto.keys ∙ reached_keys (real c.before.before.before.before.before.before.before.before.before.before.before.before)
 
-returns-6 : tie.Need-returns-6
+returns-6 : tie.Need-returns
 unfolding store_then assisted field halfword first expands operand real
 returns-6 c =
-    let put = c.before.before.before.before.before in
-    let here = real (stored put) in
-    let found = (stored put).before.before.before.before in
+    let here = real c.before.before.before.before.before.before.before.before.before.before.before.before in
     let a = here.start.args in
-    let call = (stored put).before.before.before.before.before.before.before.before.before in
-    let mask = call.before.before.before.before.before.before.before in
-    let old = masked mask in
-    let at = address old.before.before.before.before in
-    let new = store (address_in at.before.before.field.given.0.0) 1
-    (new_mask a.change (mask_in old.before.before.halfword.given.0.0) (immediate a.call)) in
-    completes c.completed.result put.put-mask.new.0 put.put-mask.new.1.0 _ here.runs
+    let new = store (address_in c.in-Value.vpsw) 1
+    (new_mask a.change (mask_in c.in-Value-halfword.first) (immediate a.call)) in
+    completes c.completed.result c.put_mask.new.storage c.put_mask.new.keys _ here.runs
     c.completed.ensures
-    (simp (changed mask, at.address-in.ensures) at put.put-mask.ensures
+    (simp (changed c.before.before.before.before.before.before.before.before.before.before.before.before.before.before.before.before.before.before.before.before.before.before.before.before.before, c.address_in-at.ensures) at c.put_mask.ensures
     ∙ ap (λ m. perform m new)
-    ((stored put).IsStore-byte.ensures
-    ∙ ap (λ v. perform here.left (store found.operand.given.0.0 1 v)) old.mask-in.ensures.0))
+    (c.store_byte.ensures
+    ∙ ap (λ v. perform here.left (store c.in-Value-operand.real 1 v)) c.mask_in-old.ensures.0))
 
-pub store-then-spec : {M : Type 1} → statement M
-store-then-spec =
+pub store_then_spec : {M : Type 1} → statement M
+store_then_spec =
     tie.close
     (tie.spec
     (λ c κs. search rules)

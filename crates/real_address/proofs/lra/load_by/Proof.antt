@@ -17,51 +17,42 @@ entry c = machine c.args.storage.now c.args.keys.now
 abbrev stage : tie.Start → Steps Completion
 stage c = let a = c.args in load_by a.rseg a.format a.table a.at
 
-abbrev start : tie.After-virtual-walk → tie.Start
-start c = c.before.before.before.before
-
 -- what the walk came to
-gave : (c : tie.After-virtual-walk) {w : Walked} → c.virtual-walk.result ≡ w
-    → let a = (start c).args in
-    told_walk w a.storage.now c.virtual-walk.new.1.0
-    ≡ more 0 (seen (virtual_walk a.rseg a.format a.table a.at) (entry (start c)))
+gave : (c : tie.After-virtual_walk-walked) {w : Walked} → c.virtual_walk-walked.result ≡ w
+    → let a = c.args in
+    told_walk w a.storage.now c.virtual_walk-walked.new.keys
+    ≡ more 0 (seen (virtual_walk a.rseg a.format a.table a.at) (entry c.before.before.before.before))
 gave c e =
-    ap (λ w. told_walk w (start c).args.storage.now c.virtual-walk.new.1.0) (sym e)
-    ∙ fresh _ _ c.virtual-walk.ensures
+    ap (λ w. told_walk w c.args.storage.now c.virtual_walk-walked.new.keys) (sym e)
+    ∙ fresh _ _ c.virtual_walk-walked.ensures
 
-returns : tie.Need-returns
+returns : tie.Need-returns-in-Found
 unfolding load_by
 returns c =
-    let at = c.before.before.before in
-    let walk = at.before.before.before.before in
-    let m = entry (start walk) in
-    let s = (start walk).args.storage.now in
-    let ks = walk.virtual-walk.new.1.0 in
-    finishes c.before.loaded.result c.answer-after.result s ks
-    (goes _ _ (begin m (stage (start walk))) (gave walk at.walked.given.1)) c.answer-after.ensures
-    (c.before.loaded.ensures s ks)
+    let m = entry c.before.before.before.before.before.before.before.before.before in
+    let s = c.args.storage.now in
+    let ks = c.virtual_walk-walked.new.keys in
+    finishes c.loaded.result c.answer_after.result s ks
+    (goes _ _ (begin m (stage c.before.before.before.before.before.before.before.before.before)) (gave c.before.before.before.before.before c.in-Found.is)) c.answer_after.ensures
+    (c.loaded.ensures s ks)
 
-returns-2 : tie.Need-returns-2
+returns-2 : tie.Need-returns-in-Fault
 unfolding load_by
 returns-2 c =
-    let at = c.before.before.before in
-    let walk = at.before.before.before.before in
-    let m = entry (start walk) in
-    let s = (start walk).args.storage.now in
-    let ks = walk.virtual-walk.new.1.0 in
-    finishes c.before.faulted.result c.answer-after2.result s ks
-    (goes _ _ (begin m (stage (start walk))) (gave walk at.walked2.given.1)) c.answer-after2.ensures
-    (c.before.faulted.ensures s ks)
+    let m = entry c.before.before.before.before.before.before.before.before.before in
+    let s = c.args.storage.now in
+    let ks = c.virtual_walk-walked.new.keys in
+    finishes c.faulted.result c.answer_after-in-Fault.result s ks
+    (goes _ _ (begin m (stage c.before.before.before.before.before.before.before.before.before)) (gave c.before.before.before.before.before c.in-Fault.is)) c.answer_after-in-Fault.ensures
+    (c.faulted.ensures s ks)
 
-returns-3 : tie.Need-returns-3
+returns-3 : tie.Need-returns-in-Stopped
 unfolding load_by
 returns-3 c =
-    let at = c.before in
-    let walk = at.before.before.before.before in
-    ap finish (ends _ _ (begin (entry (start walk)) (stage (start walk))) (gave walk at.walked3.given.1))
+    ap finish (ends _ _ (begin (entry c.before.before.before.before.before.before.before) (stage c.before.before.before.before.before.before.before)) (gave c.before.before.before c.in-Stopped.is))
 
-pub load-by-spec : {M : Type 1} → statement M
-load-by-spec =
+pub load_by_spec : {M : Type 1} → statement M
+load_by_spec =
     tie.close
     (tie.spec
     (λ c κs. search rules)

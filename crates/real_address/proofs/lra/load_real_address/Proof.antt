@@ -18,63 +18,56 @@ abbrev stage : tie.Start → Steps Completion
 stage c = load_real_address c.args.call
 
 -- step 1
-abbrev assisted : tie.After-assists-control → Tested entry stage
+abbrev assisted : tie.After-assists_control → Tested entry stage
 unfolding load_real_address
 assisted c =
-    let start = c.before.before.before.before in
-    tests start _ _ _ (begin (entry start) (stage start)) (not c.assists-control.result)
-    (ap not c.assists-control.ensures)
+    tests c.before.before.before.before _ _ _ (begin (entry c.before.before.before.before) (stage c.before.before.before.before)) (not c.assists_control.result)
+    (ap not c.assists_control.ensures)
 
-returns : tie.Need-returns
+returns : tie.Need-returns-then-not-assists_control
 unfolding load_real_address assisted
-returns c = ap finish (stopped (assisted c.before) c.if1.true)
+returns c = ap finish (stopped (assisted c.before) (ap not c.if-not-assists_control.true))
 
 -- step 2: MICRSEG
-abbrev table : tie.After-micblok-word → Asked entry stage
+abbrev table : tie.After-micblok_word-field_1 → Asked entry stage
 unfolding load_real_address assisted
 table c =
-    let test = c.before.before in
-    let here = passed (assisted test.before) test.if1.false in
-    asks here.start _ _ here.runs c.micblok-word.result here.start.args.storage.now
-    c.micblok-word.new.1.0 (fresh _ _ c.micblok-word.ensures)
+    let here = passed (assisted c.before.before.before) (ap not c.if-not-assists_control.false) in
+    asks here.start _ _ here.runs c.micblok_word-field_1.result here.start.args.storage.now
+    c.micblok_word-field_1.new.keys (fresh _ _ c.micblok_word-field_1.ensures)
 
-returns-2 : tie.Need-returns-2
+returns-2 : tie.Need-returns-in_default
 unfolding load_real_address assisted table
 returns-2 c =
-    ended_with c.ending.result (table c.before.before.before.before.before) c.ending.ensures
-    c.before.enum_told.given.1
+    ended_with c.ending.result (table c.before.before.before.before) c.ending.ensures
+    c.in_default.is
 
 -- and MICCREG
-abbrev block : tie.After-after → Asked entry stage
+abbrev block : tie.After-after-field_2 → Asked entry stage
 unfolding load_real_address assisted table
 block c =
-    let call = c.before.before.before in
-    let at = call.before.before.before in
-    let here = given (table at.before.before.before.before) at.field-1.given.1 in
-    asks_after here.start _ _ here.runs call.micblok-word2.result c.after.result
-    here.start.args.storage.now call.micblok-word2.new.1.0 c.after.ensures
-    call.micblok-word2.ensures
+    let here = given (table c.before.before.before.before.before.before.before.before) c.in-Value.is in
+    asks_after here.start _ _ here.runs c.micblok_word.result c.after-field_2.result
+    here.start.args.storage.now c.micblok_word.new.keys c.after-field_2.ensures
+    c.micblok_word.ensures
 
-returns-3 : tie.Need-returns-3
+returns-3 : tie.Need-returns-in_default-field_2
 unfolding load_real_address assisted table block
 returns-3 c =
-    ended_with c.ending2.result (block c.before.before.before) c.ending2.ensures
-    c.before.enum-told2.given.1
+    ended_with c.ending-in_default-field_2.result (block c.before.before) c.ending-in_default-field_2.ensures
+    c.in_default-field_2.is
 
 -- from step 3
-returns-4 : tie.Need-returns-4
+returns-4 : tie.Need-returns
 unfolding load_real_address assisted table block
 returns-4 c =
-    let call = c.before.before.before in
-    let address = call.before.before in
-    let at = address.before.before in
-    let here = given (block at.before.before) at.field-2.given.1 in
-    finishes call.load-through.result c.answer-after.result here.start.args.storage.now
-    call.load-through.new.1.0 here.runs c.answer-after.ensures
-    (simp address.address-in.ensures at call.load-through.ensures)
+    let here = given (block c.before.before.before.before.before.before.before) c.in-Value-field_2.is in
+    finishes c.load_through.result c.answer_after.result here.start.args.storage.now
+    c.load_through.new.keys here.runs c.answer_after.ensures
+    (simp c.address_in-ecblok.ensures at c.load_through.ensures)
 
-pub load-real-address-spec : {M : Type 1} → statement M
-load-real-address-spec =
+pub load_real_address_spec : {M : Type 1} → statement M
+load_real_address_spec =
     tie.close
     (tie.spec
     (λ c κs. search rules)

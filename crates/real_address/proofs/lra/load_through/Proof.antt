@@ -19,106 +19,95 @@ abbrev stage : tie.Start → Steps Completion
 stage c = load_through c.args.call c.args.rseg c.args.ecblok
 
 -- step 3: virtual control register 0
-abbrev first : tie.After-control-word → Asked entry stage
+abbrev first : tie.After-control_word-word_0 → Asked entry stage
 unfolding load_through
 first c =
-    let start = c.before.before.before.before.before in
-    asks start _ _ (begin (entry start) (stage start)) c.control-word.result start.args.storage.now
-    c.control-word.new.1.0 (fresh _ _ c.control-word.ensures)
+    asks c.before.before.before.before.before _ _ (begin (entry c.before.before.before.before.before) (stage c.before.before.before.before.before)) c.control_word-word_0.result c.args.storage.now
+    c.control_word-word_0.new.keys (fresh _ _ c.control_word-word_0.ensures)
 
-returns : tie.Need-returns
+returns : tie.Need-returns-in_default
 unfolding load_through first
 returns c =
-    ended_with c.ending.result (first c.before.before.before.before.before) c.ending.ensures
-    c.before.enum_told.given.1
+    ended_with c.ending.result (first c.before.before.before.before) c.ending.ensures
+    c.in_default.is
 
 -- and 1
-abbrev second : tie.After-after → Asked entry stage
+abbrev second : tie.After-after-word_1 → Asked entry stage
 unfolding load_through first
 second c =
-    let call = c.before.before.before in
-    let at = call.before.before.before.before in
-    let here = given (first at.before.before.before.before) at.word-0.given.1 in
-    asks_after here.start _ _ here.runs call.control-word2.result c.after.result
-    here.start.args.storage.now call.control-word2.new.1.0 c.after.ensures
-    (simp call.before.sum.ensures at call.control-word2.ensures)
+    let here = given (first c.before.before.before.before.before.before.before.before.before) c.in-Value.is in
+    asks_after here.start _ _ here.runs c.control_word.result c.after-word_1.result
+    here.start.args.storage.now c.control_word.new.keys c.after-word_1.ensures
+    (simp c.sum.ensures at c.control_word.ensures)
 
-returns-2 : tie.Need-returns-2
+returns-2 : tie.Need-returns-in_default-word_1
 unfolding load_through first second
 returns-2 c =
-    ended_with c.ending2.result (second c.before.before.before) c.ending2.ensures
-    c.before.enum-told2.given.1
+    ended_with c.ending-in_default-word_1.result (second c.before.before) c.ending-in_default-word_1.ensures
+    c.in_default-word_1.is
 
-abbrev registers : tie.After-known-told2 → Reached entry stage
+abbrev registers : tie.In-Value-word_1 → Reached entry stage
 unfolding load_through first second
-registers c = let at = c.before in given (second at.before.before) at.word-1.given.1
+registers c = given (second c.before) c.in-Value-word_1.is
 
 -- step 4
-returns-3 : tie.Need-returns-3
+returns-3 : tie.Need-returns-in_default-format_of
 unfolding load_through first second registers
 returns-3 c =
-    let call = c.before.before in
-    let here = registers call.before in
+    let here = registers c.before.before in
     ap finish
-    (unformed refuse _ _ here.runs call.format-of.result (call.format-of.ensures refuse here.left)
-    c.enum-told3.given.1)
+    (unformed refuse _ _ here.runs c.format_of.result (c.format_of.ensures refuse here.left)
+    c.in_default-format_of.is)
 
-abbrev format : tie.After-known-told3 → Reached entry stage
+abbrev format : tie.In-Of → Reached entry stage
 unfolding load_through first second registers
 format c =
-    let call = c.before.before.before in
-    let here = registers call.before in
+    let here = registers c.before.before in
     reached here.start
-    (formed refuse _ _ here.runs call.format-of.result (call.format-of.ensures refuse here.left)
-    c.before.format.given.1)
+    (formed refuse _ _ here.runs c.format_of.result (c.format_of.ensures refuse here.left)
+    c.in-Of.is)
 
 -- step 5
-abbrev halfword : tie.After-after2 → Asked entry stage
+abbrev halfword : tie.After-after-halfword → Asked entry stage
 unfolding load_through first second registers format
 halfword c =
-    let call = c.before.before.before in
-    let here = format call.before.before in
-    asks_after here.start _ _ here.runs call.second-halfword.result c.after2.result
-    here.start.args.storage.now call.second-halfword.new.1.0 c.after2.ensures
-    call.second-halfword.ensures
+    let here = format c.before.before.before.before.before in
+    asks_after here.start _ _ here.runs c.second_halfword.result c.after-halfword.result
+    here.start.args.storage.now c.second_halfword.new.keys c.after-halfword.ensures
+    c.second_halfword.ensures
 
-same-length-4 : tie.Need-same-length-4
+same-length-4 : tie.Need-shape_of-keys-in_default-halfword
 unfolding load_through first second registers format
 same-length-4 c =
-    let call = c.before.before.before.before.before.before in
-    call.second-halfword.auto.1.0 ∙ reached_keys (format call.before.before)
+    c.second_halfword.auto.keys ∙ reached_keys (format c.before.before.before.before.before.before.before)
 
-returns-4 : tie.Need-returns-4
+returns-4 : tie.Need-returns-in_default-halfword
 unfolding load_through first second registers format halfword
 returns-4 c =
-    ended_with c.ending3.result (halfword c.before.before.before) c.ending3.ensures
-    c.before.enum-told4.given.1
+    ended_with c.ending-in_default-halfword.result (halfword c.before.before) c.ending-in_default-halfword.ensures
+    c.in_default-halfword.is
 
-abbrev operand : tie.After-load-by → Reached entry stage
+abbrev operand : tie.After-load_by → Reached entry stage
 unfolding load_through first second registers format halfword
 operand c =
-    let at = c.before.before.before.before.before in
-    given (halfword at.before.before) at.halfword.given.1
+    given (halfword c.before.before.before.before.before) c.in-Value-halfword.is
 
 -- from step 6
-same-length-5 : tie.Need-same-length-5
+same-length-5 : tie.Need-shape_of-keys
 unfolding load_through first second registers format halfword operand
 same-length-5 c =
-    let call = c.before.before.before in
-    call.load-by.auto.1.0 ∙ reached_keys (operand call)
+    c.load_by.auto.keys ∙ reached_keys (operand c.before.before.before)
 
-returns-5 : tie.Need-returns-5
+returns-5 : tie.Need-returns
 unfolding load_through first second registers format halfword operand
 returns-5 c =
-    let call = c.before.before.before in
-    let address = call.before.before in
-    let here = operand call in
-    finishes call.load-by.result c.answer-after.result here.start.args.storage.now
-    call.load-by.new.1.0 here.runs c.answer-after.ensures
-    (simp (address.indexed.ensures, address.before.r2.ensures) at call.load-by.ensures)
+    let here = operand c.before.before.before in
+    finishes c.load_by.result c.answer_after.result here.start.args.storage.now
+    c.load_by.new.keys here.runs c.answer_after.ensures
+    (simp (c.indexed-at.ensures, c.r2.ensures) at c.load_by.ensures)
 
-pub load-through-spec : {M : Type 1} → statement M
-load-through-spec =
+pub load_through_spec : {M : Type 1} → statement M
+load_through_spec =
     tie.close
     (tie.spec
     (λ c κs. search rules)

@@ -1,4 +1,4 @@
-use Rattle.std.proofs.Common.{sym, ap, ◌∙◌, rules}
+use Rattle.std.proofs.Common.{sym, ap, ◌∙◌}
 use Rattle.storage.specs.Items.{found}
 use Rattle.storage.specs.Recording.{Fetch, marking}
 use Rattle.storage.proofs.Fetched.{fetches, misses}

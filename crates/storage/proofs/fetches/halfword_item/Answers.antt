@@ -1,4 +1,4 @@
-use Rattle.std.proofs.Common.{sym, ap, ◌∙◌, rules}
+use Rattle.std.proofs.Common.{sym, ap, ◌∙◌}
 use Rattle.storage.specs.Items.{found}
 use Rattle.storage.proofs.Fetched.{fetches, misses}
 use Rattle.storage.proofs.fetches.halfword_item.Goals as goal

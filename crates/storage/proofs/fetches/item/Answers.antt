@@ -1,4 +1,4 @@
-use Rattle.std.proofs.Common.{sym, subst, rules}
+use Rattle.std.proofs.Common.{sym, subst}
 use Rattle.storage.specs.Items.{bytes_in}
 use Rattle.storage.specs.Answers.{Fetches}
 use Rattle.storage.proofs.fetches.item.Goals as goal

@@ -1,4 +1,4 @@
-use Rattle.std.proofs.Common.{sym, ◌∙◌, rules}
+use Rattle.std.proofs.Common.{sym, ◌∙◌}
 use Rattle.storage.proofs.fetches.word_item.Goals as goal
 
 pub word_within-requires : goal.word_within-requires

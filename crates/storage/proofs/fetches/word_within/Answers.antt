@@ -1,4 +1,4 @@
-use Rattle.std.proofs.Common.{sym, ap, ◌∙◌, arith, rules}
+use Rattle.std.proofs.Common.{sym, ap, ◌∙◌, arith}
 use Rattle.storage.specs.Items.{found}
 use Rattle.storage.specs.Recording.{Fetch}
 use Rattle.storage.proofs.Fetched.{fetches, misses}

@@ -1,4 +1,4 @@
-use Rattle.std.proofs.Common.{ap, arith, rules, le-ltb, lt-ltb}
+use Rattle.std.proofs.Common.{ap, arith, le-ltb, lt-ltb}
 use mathlib.Core.Option.{some}
 use Rattle.storage.specs.Items.{item_at}
 use Rattle.storage.proofs.items.byte_at.Goals as goal

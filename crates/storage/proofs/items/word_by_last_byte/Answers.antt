@@ -1,4 +1,4 @@
-use Rattle.std.proofs.Common.{sym, arith, rules}
+use Rattle.std.proofs.Common.{sym, arith}
 use Rattle.storage.proofs.Words.{word_there, word_missing}
 use Rattle.storage.proofs.items.word_by_last_byte.Goals as goal
 

@@ -1,4 +1,4 @@
-use Rattle.std.proofs.Common.{arith, rules, le-ltb, lt-ltb}
+use Rattle.std.proofs.Common.{arith, le-ltb, lt-ltb}
 use Rattle.rules.specs.Steps.{consult_key}
 use Rattle.storage.specs.Answers.{seen}
 use Rattle.storage.proofs.keys.consult_key.Goals as goal

@@ -1,5 +1,4 @@
 use Rattle.rules.specs.Recording.{marked}
-use Rattle.std.proofs.Common.{rules}
 use Rattle.storage.proofs.recording.record_halfword.Goals as goal
 
 pub returns : goal.returns

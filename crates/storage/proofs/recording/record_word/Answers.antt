@@ -1,6 +1,5 @@
 use Rattle.storage.specs.Recording.{marking}
 use Rattle.storage.proofs.Recorded.{word_marked}
-use Rattle.std.proofs.Common.{rules}
 use Rattle.storage.proofs.recording.record_word.Goals as goal
 
 pub returns : goal.returns

@@ -1,4 +1,4 @@
-use Rattle.std.proofs.Common.{sym, ap, ◌∙◌, rules}
+use Rattle.std.proofs.Common.{sym, ap, ◌∙◌}
 use Rattle.rules.specs.Steps.{fetch_bytes}
 use Rattle.storage.specs.Items.{bytes_in}
 use Rattle.storage.specs.Answers.{machine, told, seen}

@@ -1,4 +1,4 @@
-use Rattle.std.proofs.Common.{sym, ap, ◌∙◌, rules}
+use Rattle.std.proofs.Common.{sym, ap, ◌∙◌}
 use Rattle.storage.specs.Answers.{told}
 use Rattle.storage.proofs.steps.fetch_word.Goals as goal
 

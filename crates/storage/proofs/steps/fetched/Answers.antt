@@ -1,4 +1,3 @@
-use Rattle.std.proofs.Common.{rules}
 use Rattle.storage.proofs.steps.fetched.Goals as goal
 
 pub returns-in-Of : goal.returns-in-Of

@@ -1,4 +1,3 @@
-use Rattle.std.proofs.Common.{rules}
 use Rattle.storage.proofs.stores.put_bytes.Goals as goal
 
 pub returns : goal.returns

@@ -1,5 +1,4 @@
 use Rattle.rules.proofs.Bytes.{four_set}
-use Rattle.std.proofs.Common.{rules}
 use Rattle.storage.proofs.stores.put_word.Goals as goal
 
 pub returns : goal.returns

@@ -1,5 +1,4 @@
 use Rattle.rules.specs.Recording.{marked}
-use Rattle.std.proofs.Common.{rules}
 use Rattle.storage.proofs.stores.store_byte.Goals as goal
 
 pub returns : goal.returns

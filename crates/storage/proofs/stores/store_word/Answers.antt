@@ -1,4 +1,4 @@
-use Rattle.std.proofs.Common.{◌≡◌, ◌+◌, false, sym, ap, ◌∙◌, arith, rules}
+use Rattle.std.proofs.Common.{◌≡◌, ◌+◌, false, sym, ap, ◌∙◌, arith}
 use borrow.Rule.Slice.PartMut.{Post-is}
 use Rattle.rules.specs.Machine.{addresses}
 use Rattle.rules.specs.Recording.{marked, changed}

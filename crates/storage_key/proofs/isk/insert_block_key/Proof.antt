@@ -16,34 +16,31 @@ abbrev stage : tie.Start → Steps Completion
 stage c = insert_block_key c.args.guest c.args.page
 
 -- step 11: the key
-abbrev consulted : tie.After-consult-key → Asked entry stage
+abbrev consulted : tie.After-consult_key-consulted → Asked entry stage
 unfolding insert_block_key
 consulted c =
-    let start = c.before.before.before.before in
-    let s = start.args.storage.now in
-    asks start _ _ (begin (entry start) (stage start)) c.consult-key.result s c.consult-key.new.0
-    (fresh _ _ (c.consult-key.ensures s))
+    let s = c.args.storage.now in
+    asks c.before.before.before.before _ _ (begin (entry c.before.before.before.before) (stage c.before.before.before.before)) c.consult_key-consulted.result s c.consult_key-consulted.new.keys
+    (fresh _ _ (c.consult_key-consulted.ensures s))
 
-returns : tie.Need-returns
+returns : tie.Need-returns-in_default
 unfolding insert_block_key consulted
 returns c =
-    let asked = consulted c.before.before.before.before.before in
+    let asked = consulted c.before.before.before.before in
     ended_with c.ending.result asked c.ending.ensures
-    c.before.enum_told.given.1
+    c.in_default.is
 
 -- and steps 12 to 14
-returns-2 : tie.Need-returns-2
+returns-2 : tie.Need-returns
 unfolding insert_block_key consulted
 returns-2 c =
-    let call = c.before.before.before in
-    let at = call.before.before.before in
-    let here = given (consulted at.before.before.before.before) at.consulted.given.1 in
+    let here = given (consulted c.before.before.before.before.before.before.before.before) c.in-Value.is in
     let a = here.start.args in
-    finishes call.insert_key.result c.answer-after.result a.storage.now
-    call.insert_key.new.1.0 here.runs c.answer-after.ensures call.insert_key.ensures
+    finishes c.insert_key.result c.answer_after.result a.storage.now
+    c.insert_key.new.keys here.runs c.answer_after.ensures c.insert_key.ensures
 
-pub insert-block-key-spec : {M : Type 1} → statement M
-insert-block-key-spec =
+pub insert_block_key_spec : {M : Type 1} → statement M
+insert_block_key_spec =
     tie.close
     (tie.spec
     (λ c κs. search rules)

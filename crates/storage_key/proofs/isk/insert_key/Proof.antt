@@ -19,66 +19,59 @@ abbrev stage : tie.Start → Steps Completion
 stage c = insert_key c.args.guest c.args.page c.args.tried c.args.marks
 
 -- step 12: MICVPSW
-abbrev field : tie.After-micblok-word → Asked entry stage
+abbrev field : tie.After-micblok_word-field → Asked entry stage
 unfolding insert_key
 field c =
-    let start = c.before.before.before.before in
-    asks start _ _ (begin (entry start) (stage start)) c.micblok-word.result start.args.storage.now
-    c.micblok-word.new.1.0 (fresh _ _ c.micblok-word.ensures)
+    asks c.before.before.before.before _ _ (begin (entry c.before.before.before.before) (stage c.before.before.before.before)) c.micblok_word-field.result c.args.storage.now
+    c.micblok_word-field.new.keys (fresh _ _ c.micblok_word-field.ensures)
 
-returns : tie.Need-returns
+returns : tie.Need-returns-in_default
 unfolding insert_key field
 returns c =
-    let asked = field c.before.before.before.before.before in
+    let asked = field c.before.before.before.before in
     ended_with c.ending.result asked c.ending.ensures
-    c.before.enum_told.given.1
+    c.in_default.is
 
-abbrev vpsw : tie.After-control-halfword → Reached entry stage
+abbrev vpsw : tie.After-control_halfword → Reached entry stage
 unfolding insert_key field
 vpsw c =
-    let at = c.before.before.before.before in
-    given (field at.before.before.before.before) at.field.given.1
+    given (field c.before.before.before.before.before.before) c.in-Value.is
 
 -- step 13: the virtual PSW
-abbrev halfword : tie.After-after → Asked entry stage
+abbrev halfword : tie.After-after-halfword → Asked entry stage
 unfolding insert_key field vpsw
 halfword c =
-    let call = c.before.before.before in
-    let here = vpsw call in
-    asks_after here.start _ _ here.runs call.control-halfword.result c.after.result
-    here.start.args.storage.now call.control-halfword.new.1.0 c.after.ensures
-    (simp call.before.before.address-in.ensures at call.control-halfword.ensures)
+    let here = vpsw c.before.before.before in
+    asks_after here.start _ _ here.runs c.control_halfword.result c.after-halfword.result
+    here.start.args.storage.now c.control_halfword.new.keys c.after-halfword.ensures
+    (simp c.address_in-psw_at.ensures at c.control_halfword.ensures)
 
-returns-2 : tie.Need-returns-2
+returns-2 : tie.Need-returns-in_default-halfword
 unfolding insert_key field vpsw halfword
 returns-2 c =
-    let asked = halfword c.before.before.before in
-    ended_with c.ending2.result asked c.ending2.ensures
-    c.before.enum-told2.given.1
+    let asked = halfword c.before.before in
+    ended_with c.ending-in_default-halfword.result asked c.ending-in_default-halfword.ensures
+    c.in_default-halfword.is
 
 -- step 14
-same-length-3 : tie.Need-same-length-3
+same-length-3 : tie.Need-shape_of-keys
 unfolding insert_key field vpsw
 same-length-3 c =
-    let call = c.before.before.before.before.before.before.before.before.before in
-    call.control-halfword.auto.1.0 ∙ reached_keys (vpsw call)
+    c.control_halfword.auto.keys ∙ reached_keys (vpsw c.before.before.before.before.before.before.before)
 
-returns-3 : tie.Need-returns-3
+returns-3 : tie.Need-returns
 unfolding insert_key field vpsw halfword
 returns-3 c =
-    let at = c.before.before.before.before in
-    let call = at.before.before.before.before.before in
-    let here = given (halfword at.before.before) at.halfword.given.1 in
+    let here = given (halfword c.before.before.before.before) c.in-Value-halfword.is in
     let a = here.start.args in
-    let key = inserted_key (extended_in at.halfword.given.0.0) (virtual_key a.page) a.marks in
-    let inserted = c.before in
-    completes_as (RegisterByte key) c.completed-as.result
-    a.storage.now call.control-halfword.new.1.0 [] here.runs
-    (simp (inserted.inserted-key.ensures, inserted.before.virtual-key.ensures) at c.completed-as.ensures)
+    let key = inserted_key (extended_in c.in-Value-halfword.first) (virtual_key a.page) a.marks in
+    completes_as (RegisterByte key) c.completed_as.result
+    a.storage.now c.control_halfword.new.keys [] here.runs
+    (simp (c.inserted_key-key.ensures, c.virtual_key.ensures) at c.completed_as.ensures)
     refl
 
-pub insert-key-spec : {M : Type 1} → statement M
-insert-key-spec =
+pub insert_key_spec : {M : Type 1} → statement M
+insert_key_spec =
     tie.close
     (tie.spec
     (λ c. search rules)

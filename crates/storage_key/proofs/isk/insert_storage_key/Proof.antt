@@ -17,87 +17,74 @@ abbrev stage : tie.Start → Steps Completion
 stage c = insert_storage_key c.args.call
 
 -- steps 1 to 3
-abbrev table : tie.After-segment-table → Asked entry stage
+abbrev table : tie.After-segment_table-table → Asked entry stage
 unfolding insert_storage_key
 table c =
-    let start = c.before.before.before.before.before.before.before.before in
-    asks start _ _ (begin (entry start) (stage start)) c.segment-table.result start.args.storage.now
-    c.segment-table.new.1.0
+    asks c.before.before.before.before.before.before.before.before _ _ (begin (entry c.before.before.before.before.before.before.before.before) (stage c.before.before.before.before.before.before.before.before)) c.segment_table-table.result c.args.storage.now
+    c.segment_table-table.new.keys
     (fresh _ _
-    (simp (c.before.places.ensures, c.before.before.assists-keys.ensures) at c.segment-table.ensures))
+    (simp (c.places.ensures, c.assists_keys.ensures) at c.segment_table-table.ensures))
 
-returns : tie.Need-returns
+returns : tie.Need-returns-in_default
 unfolding insert_storage_key table
 returns c =
-    let asked = table c.before.before.before.before.before in
+    let asked = table c.before.before.before.before in
     ended_with c.ending.result asked c.ending.ensures
-    c.before.enum_told.given.1
-
--- where the address was taken
-abbrev address : tie.After-segment-table → tie.After-address-word
-address c = c.before.before.before.before
+    c.in_default.is
 
 -- steps 4 to 10
-abbrev way : tie.After-after → Sought entry stage
+abbrev way : tie.After-after-found → Sought entry stage
 unfolding insert_storage_key table
 way c =
-    let call = c.before.before.before in
-    let at = call.before.before.before.before in
-    let here = given (table at.before.before.before.before) at.table.given.1 in
-    seeks_after here.start _ _ here.runs call.find-page.result c.after.result
-    here.start.args.storage.now call.find-page.new.1.0 c.after.ensures
-    (simp (call.before.places2.ensures, (address at.before.before.before.before).address_word.ensures) at
-    call.find-page.ensures)
+    let here = given (table c.before.before.before.before.before.before.before.before.before) c.in-Value.is in
+    seeks_after here.start _ _ here.runs c.find_page.result c.after-found.result
+    here.start.args.storage.now c.find_page.new.keys c.after-found.ensures
+    (simp (c.places-2.ensures, c.address_word-at.ensures) at
+    c.find_page.ensures)
 
-returns-2 : tie.Need-returns-2
+returns-2 : tie.Need-returns-in_default-found
 unfolding insert_storage_key table way
 returns-2 c =
-    let sought = way c.before.before.before in
-    ended_on_way c.ending2.result sought c.ending2.ensures
-    c.before.enum-told2.given.1
+    let sought = way c.before.before in
+    ended_on_way c.ending-in_default-found.result sought c.ending-in_default-found.ensures
+    c.in_default-found.is
 
-abbrev page : tie.After-known-told2 → Reached entry stage
+abbrev page : tie.In-Page → Reached entry stage
 unfolding insert_storage_key table way
-page c = let at = c.before in found (way at.before.before) at.found.given.1
+page c = found (way c.before) c.in-Page.is
 
 -- step 11, the page is invalid: steps 12 to 14
-same-length-3 : tie.Need-same-length-3
+same-length-3 : tie.Need-shape_of-keys-then-page
 unfolding insert_storage_key table way page
 same-length-3 c =
-    let call = c.before.before.before in
-    call.insert_key.auto.1.0 ∙ reached_keys (page call.before.before.before)
+    c.insert_key.auto.keys ∙ reached_keys (page c.before.before.before.before.before.before)
 
-returns-3 : tie.Need-returns-3
+returns-3 : tie.Need-returns-then-page
 unfolding insert_storage_key table way page
 returns-3 c =
-    let call = c.before.before.before in
-    let test = call.before.before in
-    let here = page test.before in
+    let here = page c.before.before.before.before.before.before in
     let a = here.start.args in
-    finishes call.insert_key.result c.answer-after.result a.storage.now
-    call.insert_key.new.1.0 (chosen _ _ _ here.runs test.if1.true) c.answer-after.ensures
-    call.insert_key.ensures
+    finishes c.insert_key.result c.answer_after.result a.storage.now
+    c.insert_key.new.keys (chosen _ _ _ here.runs c.if-page.true) c.answer_after.ensures
+    c.insert_key.ensures
 
 -- it is valid: steps 11 to 14
-same-length-4 : tie.Need-same-length-4
+same-length-4 : tie.Need-shape_of-keys
 unfolding insert_storage_key table way page
 same-length-4 c =
-    let call = c.before.before.before in
-    call.insert-block-key.auto.1.0 ∙ reached_keys (page call.before.before.before)
+    c.insert_block_key.auto.keys ∙ reached_keys (page c.before.before.before.before.before.before)
 
-returns-4 : tie.Need-returns-4
+returns-4 : tie.Need-returns
 unfolding insert_storage_key table way page
 returns-4 c =
-    let call = c.before.before.before in
-    let test = call.before.before in
-    let here = page test.before in
+    let here = page c.before.before.before.before.before.before in
     let a = here.start.args in
-    finishes call.insert-block-key.result c.answer-after2.result a.storage.now
-    call.insert-block-key.new.1.0 (rejected _ _ _ here.runs test.if1.false) c.answer-after2.ensures
-    call.insert-block-key.ensures
+    finishes c.insert_block_key.result c.answer_after-2.result a.storage.now
+    c.insert_block_key.new.keys (rejected _ _ _ here.runs c.if-page.false) c.answer_after-2.ensures
+    c.insert_block_key.ensures
 
-pub insert-storage-key-spec : {M : Type 1} → statement M
-insert-storage-key-spec =
+pub insert_storage_key_spec : {M : Type 1} → statement M
+insert_storage_key_spec =
     tie.close
     (tie.spec
     (λ c κs. search rules)

@@ -16,109 +16,87 @@ entry c = machine c.args.storage.now c.args.keys.now
 abbrev stage : tie.Start → Steps FoundPage
 stage c = find_page c.args.numbers c.args.rseg c.args.at
 
--- where the format was taken
-abbrev format : tie.After-segment-of → tie.After-format-in
-format c = c.before.before
-
 -- steps 4 to 6
-abbrev segment : tie.After-segment-of → Asked entry stage
+abbrev segment : tie.After-segment_of-entry → Asked entry stage
 unfolding find_page
 segment c =
-    let start = (format c).before.before.before in
-    asks start _ _ (begin (entry start) (stage start)) c.segment-of.result start.args.storage.now
-    c.segment-of.new.1.0 (fresh _ _ (simp (format c).format-in.ensures at c.segment-of.ensures))
+    asks c.before.before.before.before.before _ _ (begin (entry c.before.before.before.before.before) (stage c.before.before.before.before.before)) c.segment_of-entry.result c.args.storage.now
+    c.segment_of-entry.new.keys (fresh _ _ (simp c.format_in-format.ensures at c.segment_of-entry.ensures))
 
-returns : tie.Need-returns
+returns : tie.Need-returns-in_default
 unfolding find_page segment
 returns c =
-    stopped_at c.stopped.result (segment c.before.before.before.before.before) c.stopped.ensures
-    c.before.enum_told.given.1
+    stopped_at c.stopped.result (segment c.before.before.before.before) c.stopped.ensures
+    c.in_default.is
 
 -- step 7: the address of the swap word
-abbrev place : tie.After-after → Asked entry stage
+abbrev place : tie.After-after-word_at → Asked entry stage
 unfolding find_page segment
 place c =
-    let call = c.before.before.before in
-    let at = call.before.before.before in
-    let asked = at.before.before.before.before in
-    let here = given (segment asked) at.entry.given.1 in
-    asks_after here.start _ _ here.runs call.swap-word-at.result c.after.result
-    here.start.args.storage.now call.swap-word-at.new.1.0 c.after.ensures
-    (simp (format asked).format-in.ensures at call.swap-word-at.ensures)
+    let here = given (segment c.before.before.before.before.before.before.before.before) c.in-Value.is in
+    asks_after here.start _ _ here.runs c.swap_word_at.result c.after-word_at.result
+    here.start.args.storage.now c.swap_word_at.new.keys c.after-word_at.ensures
+    (simp c.format_in-format.ensures at c.swap_word_at.ensures)
 
-returns-2 : tie.Need-returns-2
+returns-2 : tie.Need-returns-in_default-word_at
 unfolding find_page segment place
 returns-2 c =
-    stopped_at c.stopped2.result (place c.before.before.before) c.stopped2.ensures
-    c.before.enum-told2.given.1
+    stopped_at c.stopped-in_default-word_at.result (place c.before.before) c.stopped-in_default-word_at.ensures
+    c.in_default-word_at.is
 
 -- step 8: the swap word
-abbrev word : tie.After-after2 → Asked entry stage
+abbrev word : tie.After-after-word → Asked entry stage
 unfolding find_page segment place
 word c =
-    let call = c.before.before.before in
-    let at = call.before.before.before in
-    let here = given (place at.before.before) at.word_at.given.1 in
-    asks_after here.start _ _ here.runs call.control-word.result c.after2.result
-    here.start.args.storage.now call.control-word.new.1.0 c.after2.ensures
-    call.control-word.ensures
+    let here = given (place c.before.before.before.before.before.before) c.in-Value-word_at.is in
+    asks_after here.start _ _ here.runs c.control_word.result c.after-word.result
+    here.start.args.storage.now c.control_word.new.keys c.after-word.ensures
+    c.control_word.ensures
 
-returns-3 : tie.Need-returns-3
+returns-3 : tie.Need-returns-in_default-word
 unfolding find_page segment place word
 returns-3 c =
-    stopped_at c.stopped3.result (word c.before.before.before) c.stopped3.ensures
-    c.before.enum-told3.given.1
+    stopped_at c.stopped-in_default-word.result (word c.before.before) c.stopped-in_default-word.ensures
+    c.in_default-word.is
 
-abbrev swap : tie.After-page-of → Reached entry stage
+abbrev swap : tie.After-page_of → Reached entry stage
 unfolding find_page segment place word
-swap c = let at = c.before.before.before in given (word at.before.before) at.word.given.1
-
--- where the format was taken, from here
-abbrev size : tie.After-page-of → tie.After-format-in
-size c =
-    let after-word = c.before.before.before.before.before in
-    let after-place = after-word.before.before.before.before.before.before.before.before in
-    format after-place.before.before.before.before.before.before.before.before.before.before
+swap c = given (word c.before.before.before) c.in-Value-word.is
 
 -- steps 9 and 10: the page entry
-abbrev entered : tie.After-after3 → Asked entry stage
+abbrev entered : tie.After-after-page_entry → Asked entry stage
 unfolding find_page segment place word swap
 entered c =
-    let call = c.before.before.before in
-    let here = swap call in
-    asks_after here.start _ _ here.runs call.page-of.result c.after3.result
-    here.start.args.storage.now call.page-of.new.1.0 c.after3.ensures
-    (simp (size call).format-in.ensures at call.page-of.ensures)
+    let here = swap c.before.before.before in
+    asks_after here.start _ _ here.runs c.page_of.result c.after-page_entry.result
+    here.start.args.storage.now c.page_of.new.keys c.after-page_entry.ensures
+    (simp c.format_in-format.ensures at c.page_of.ensures)
 
-same-length-4 : tie.Need-same-length-4
+same-length-4 : tie.Need-shape_of-keys-in_default-page_entry
 unfolding find_page segment place word swap
 same-length-4 c =
-    let call = c.before.before.before.before.before.before in
-    call.page-of.auto.1.0 ∙ reached_keys (swap call)
+    c.page_of.auto.keys ∙ reached_keys (swap c.before.before.before.before.before)
 
-returns-4 : tie.Need-returns-4
+returns-4 : tie.Need-returns-in_default-page_entry
 unfolding find_page segment place word swap entered
 returns-4 c =
-    stopped_at c.stopped4.result (entered c.before.before.before) c.stopped4.ensures
-    c.before.enum-told4.given.1
+    stopped_at c.stopped-in_default-page_entry.result (entered c.before.before) c.stopped-in_default-page_entry.ensures
+    c.in_default-page_entry.is
 
 -- and the page
-same-length-5 : tie.Need-same-length-5
+same-length-5 : tie.Need-shape_of-keys
 unfolding find_page segment place word swap
 same-length-5 c =
-    let call = c.before.before.before.before.before.before.before in
-    call.page-of.auto.1.0 ∙ reached_keys (swap call)
+    c.page_of.auto.keys ∙ reached_keys (swap c.before.before.before.before.before)
 
-returns-5 : tie.Need-returns-5
+returns-5 : tie.Need-returns
 unfolding find_page segment place word swap entered
 returns-5 c =
-    let at = c.before.before in
-    let call = at.before.before.before.before.before in
-    simp (c.found-page.ensures, (size call).format-in.ensures)
-    (settles _ (given (entered at.before.before) at.page-entry.given.1).runs)
+    simp (c.found_page.ensures, c.format_in-format.ensures)
+    (settles _ (given (entered c.before.before) c.in-Value-page_entry.is).runs)
 
-pub find-page-spec : {M : Type 1} → statement M
-find-page-spec =
+pub find_page_spec : {M : Type 1} → statement M
+find_page_spec =
     tie.close
     (tie.spec
     (λ c κs. search rules)

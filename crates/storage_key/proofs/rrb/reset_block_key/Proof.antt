@@ -23,64 +23,56 @@ abbrev stage : tie.Start → Steps Completion
 stage c = reset_block_key c.args.page
 
 -- step 12: the key
-abbrev consulted : tie.After-consult-key → Asked entry stage
+abbrev consulted : tie.After-consult_key-consulted → Asked entry stage
 unfolding reset_block_key
 consulted c =
-    let start = c.before.before.before.before in
-    let s = start.args.storage.now in
-    asks start _ _ (begin (entry start) (stage start)) c.consult-key.result s c.consult-key.new.0
-    (fresh _ _ (c.consult-key.ensures s))
+    let s = c.args.storage.now in
+    asks c.before.before.before.before _ _ (begin (entry c.before.before.before.before) (stage c.before.before.before.before)) c.consult_key-consulted.result s c.consult_key-consulted.new.keys
+    (fresh _ _ (c.consult_key-consulted.ensures s))
 
-returns : tie.Need-returns
+returns : tie.Need-returns-in_default
 unfolding reset_block_key consulted
 returns c =
-    let asked = consulted c.before.before.before.before.before in
+    let asked = consulted c.before.before.before.before in
     ended_with c.ending.result asked c.ending.ensures
-    c.before.enum_told.given.1
+    c.in_default.is
 
 -- the new key: it was consulted, so it is there
-put-key-requires : tie.Need-put-key-requires
+put-key-requires : tie.Need-put_key-requires
 unfolding reset_block_key consulted
 put-key-requires c κs =
-    let at = c.before.before.before in
-    let call = at.before.before.before.before in
-    let asked = consulted call in
-    let there = sure _ asked at.consulted.given.1
+    let asked = consulted c.before.before.before.before.before in
+    let there = sure _ asked c.in-Value.is
     (consult_key-gives (length asked.left.storage) (length asked.left.keys) Whole _ _) in
-    omega (arith, there, call.consult-key.auto.0)
+    omega (arith, there, c.consult_key-consulted.auto.keys)
 
-abbrev old : tie.After-put-key → Reached entry stage
+abbrev old : tie.After-put_key → Reached entry stage
 unfolding reset_block_key consulted
 old c =
-    let at = c.before.before.before.before in
-    given (consulted at.before.before.before.before) at.consulted.given.1
+    given (consulted c.before.before.before.before.before.before) c.in-Value.is
 
 -- and step 13
-same-length-3 : tie.Need-same-length-3
+same-length-3 : tie.Need-shape_of-keys
 unfolding reset_block_key consulted old
 same-length-3 c =
-    let put = c.before.before.before.before.before.before in
-    let set = put.before.before.before.before.before.before in
-    put.put-swap-word.auto.1.0 ∙ set.put-key.auto.0 ∙ reached_keys (old set)
+    c.put_swap_word.auto.keys ∙ c.put_key.auto.keys ∙ reached_keys (old c.before.before.before.before.before.before.before.before.before.before.before.before)
 
-returns-2 : tie.Need-returns-2
+returns-2 : tie.Need-returns
 unfolding store_reset reset_block_key consulted old
 returns-2 c =
-    let put = c.before.before.before.before.before.before in
-    let set = put.before.before.before.before.before.before in
-    let here = old set in
+    let here = old c.before.before.before.before.before.before.before.before.before.before.before.before in
     let a = here.start.args in
-    let marks = bits 8 5 6 set.before.before.before.before.consulted.given.0.0 in
+    let marks = bits 8 5 6 c.in-Value.old in
     let swap = swap_with a.page (unreferred (virtual_key a.page)) marks in
-    let first = simp set.before.unreferred.ensures at (set.put-key.ensures a.storage.now) in
-    let second = simp put.before.reset-word.ensures at put.put-swap-word.ensures in
+    let first = simp c.unreferred.ensures at (c.put_key.ensures a.storage.now) in
+    let second = simp c.reset_word.ensures at c.put_swap_word.ensures in
     completes_as (ConditionCode (bit_or marks (bits 8 5 6 (virtual_key a.page))))
-    c.completed-as.result put.put-swap-word.new.0 put.put-swap-word.new.1.0 _ here.runs
-    (simp c.before.marks-with.ensures at c.completed-as.ensures)
+    c.completed_as.result c.put_swap_word.new.storage c.put_swap_word.new.keys _ here.runs
+    (simp c.marks_with.ensures at c.completed_as.ensures)
     (second ∙ ap (λ m. perform m (store a.page.place 4 swap)) first)
 
-pub reset-block-key-spec : {M : Type 1} → statement M
-reset-block-key-spec =
+pub reset_block_key_spec : {M : Type 1} → statement M
+reset_block_key_spec =
     tie.close
     (tie.spec
     (λ c κs. search rules)

@@ -21,124 +21,110 @@ abbrev stage : tie.Start → Steps Completion
 stage c = reset_reference_bit c.args.call
 
 -- steps 1 to 3
-abbrev table : tie.After-segment-table → Asked entry stage
+abbrev table : tie.After-segment_table-table → Asked entry stage
 unfolding reset_reference_bit
 table c =
-    let start = c.before.before.before.before.before.before.before.before in
-    asks start _ _ (begin (entry start) (stage start)) c.segment-table.result start.args.storage.now
-    c.segment-table.new.1.0
+    asks c.before.before.before.before.before.before.before _ _ (begin (entry c.before.before.before.before.before.before.before) (stage c.before.before.before.before.before.before.before)) c.segment_table-table.result c.args.storage.now
+    c.segment_table-table.new.keys
     (fresh _ _
-    (simp (c.before.places.ensures, c.before.before.assists-control.ensures) at c.segment-table.ensures))
+    (simp (c.places.ensures, c.assists_control.ensures) at c.segment_table-table.ensures))
 
-returns : tie.Need-returns
+returns : tie.Need-returns-in_default
 unfolding reset_reference_bit table
 returns c =
-    let asked = table c.before.before.before.before.before in
+    let asked = table c.before.before.before.before in
     ended_with c.ending.result asked c.ending.ensures
-    c.before.enum_told.given.1
+    c.in_default.is
 
 -- step 4: the second halfword
-abbrev second : tie.After-after → Asked entry stage
+abbrev second : tie.After-after-halfword → Asked entry stage
 unfolding reset_reference_bit table
 second c =
-    let call = c.before.before.before in
-    let at = call.before.before.before.before in
-    let here = given (table at.before.before.before.before) at.table.given.1 in
-    asks_after here.start _ _ here.runs call.second-halfword.result c.after.result
-    here.start.args.storage.now call.second-halfword.new.1.0 c.after.ensures
-    call.second-halfword.ensures
+    let here = given (table c.before.before.before.before.before.before.before.before) c.in-Value.is in
+    asks_after here.start _ _ here.runs c.second_halfword.result c.after-halfword.result
+    here.start.args.storage.now c.second_halfword.new.keys c.after-halfword.ensures
+    c.second_halfword.ensures
 
-returns-2 : tie.Need-returns-2
+returns-2 : tie.Need-returns-in_default-halfword
 unfolding reset_reference_bit table second
 returns-2 c =
-    let asked = second c.before.before.before in
-    ended_with c.ending2.result asked c.ending2.ensures
-    c.before.enum-told2.given.1
+    let asked = second c.before.before in
+    ended_with c.ending-in_default-halfword.result asked c.ending-in_default-halfword.ensures
+    c.in_default-halfword.is
 
-abbrev halfword : tie.After-find-page → Reached entry stage
+abbrev halfword : tie.After-find_page → Reached entry stage
 unfolding reset_reference_bit table second
 halfword c =
-    let at = c.before.before.before.before.before.before in
-    given (second at.before.before) at.halfword.given.1
+    given (second c.before.before.before.before.before) c.in-Value-halfword.is
 
 -- steps 5 to 11
-abbrev way : tie.After-after2 → Sought entry stage
+abbrev way : tie.After-after-found → Sought entry stage
 unfolding reset_reference_bit table second halfword
 way c =
-    let call = c.before.before.before in
-    let here = halfword call in
-    seeks_after here.start _ _ here.runs call.find-page.result c.after2.result
-    here.start.args.storage.now call.find-page.new.1.0 c.after2.ensures
-    (simp (call.before.effective.ensures, call.before.before.places2.ensures) at call.find-page.ensures)
+    let here = halfword c.before.before.before in
+    seeks_after here.start _ _ here.runs c.find_page.result c.after-found.result
+    here.start.args.storage.now c.find_page.new.keys c.after-found.ensures
+    (simp (c.effective.ensures, c.places-2.ensures) at c.find_page.ensures)
 
-same-length-6 : tie.Need-same-length-6
+same-length-6 : tie.Need-shape_of-keys-in_default-found
 unfolding reset_reference_bit table second halfword
 same-length-6 c =
-    let call = c.before.before.before.before.before.before in
-    call.find-page.auto.1.0 ∙ reached_keys (halfword call)
+    c.find_page.auto.keys ∙ reached_keys (halfword c.before.before.before.before.before)
 
-returns-3 : tie.Need-returns-3
+returns-3 : tie.Need-returns-in_default-found
 unfolding reset_reference_bit table second halfword way
 returns-3 c =
-    let sought = way c.before.before.before in
-    ended_on_way c.ending3.result sought c.ending3.ensures
-    c.before.enum-told3.given.1
+    let sought = way c.before.before in
+    ended_on_way c.ending-in_default-found.result sought c.ending-in_default-found.ensures
+    c.in_default-found.is
 
-abbrev page : tie.After-known-told3 → Reached entry stage
+abbrev page : tie.In-Page → Reached entry stage
 unfolding reset_reference_bit table second halfword way
-page c = let at = c.before in found (way at.before.before) at.found.given.1
+page c = found (way c.before) c.in-Page.is
 
 -- step 12, the page is invalid: step 13 alone
-put-swap-word-requires : tie.Need-put-swap-word-requires
+put-swap-word-requires : tie.Need-put_swap_word-requires
 unfolding reset_reference_bit table second halfword way
 put-swap-word-requires c κs =
-    let at = c.before.before.before.before.before in
-    swap_there (way at.before.before) at.found.given.1 _ _ _ refl
+    swap_there (way c.before.before.before.before.before) c.in-Page.is _ _ _ refl
 
-same-length-8 : tie.Need-same-length-8
+same-length-8 : tie.Need-shape_of-keys-then-page
 unfolding reset_reference_bit table second halfword way page
 same-length-8 c =
-    let put = c.before.before.before.before.before.before in
-    put.put-swap-word.auto.1.0 ∙ reached_keys (page put.before.before.before.before.before)
+    c.put_swap_word.auto.keys ∙ reached_keys (page c.before.before.before.before.before.before.before.before.before.before.before)
 
-returns-4 : tie.Need-returns-4
+returns-4 : tie.Need-returns-then-page
 unfolding reset_reference_bit store_reset table second halfword way page
 returns-4 c =
-    let put = c.before.before.before.before.before.before in
-    let test = put.before.before.before.before in
-    let here = page test.before in
+    let here = page c.before.before.before.before.before.before.before.before.before.before.before in
     let g = here.start.args.call.guest in
-    let p = test.before.before.found.given.0.0 in
-    completes_as (ConditionCode (bit_or 0 (bits 8 5 6 (virtual_key p)))) c.completed-as.result
-    put.put-swap-word.new.0 put.put-swap-word.new.1.0 _ (chosen _ _ _ here.runs test.if1.true)
-    (simp c.before.marks-with.ensures at c.completed-as.ensures)
-    (simp put.before.reset-word.ensures at put.put-swap-word.ensures)
+    let p = c.in-Page.page in
+    completes_as (ConditionCode (bit_or 0 (bits 8 5 6 (virtual_key p)))) c.completed_as.result
+    c.put_swap_word.new.storage c.put_swap_word.new.keys _ (chosen _ _ _ here.runs c.if-page.true)
+    (simp c.marks_with.ensures at c.completed_as.ensures)
+    (simp c.reset_word.ensures at c.put_swap_word.ensures)
 
 -- it is valid: steps 12 and 13
-reset-block-key-requires : tie.Need-reset-block-key-requires
+reset-block-key-requires : tie.Need-reset_block_key-requires
 unfolding reset_reference_bit table second halfword way
 reset-block-key-requires c κs =
-    let at = c.before.before.before.before in
-    swap_there (way at.before.before) at.found.given.1 _ _ _ refl
+    swap_there (way c.before.before.before.before) c.in-Page.is _ _ _ refl
 
-same-length-10 : tie.Need-same-length-10
+same-length-10 : tie.Need-shape_of-keys
 unfolding reset_reference_bit table second halfword way page
 same-length-10 c =
-    let call = c.before.before.before.before.before in
-    call.reset-block-key.auto.1.0 ∙ reached_keys (page call.before.before.before.before)
+    c.reset_block_key.auto.keys ∙ reached_keys (page c.before.before.before.before.before.before.before.before.before)
 
-returns-5 : tie.Need-returns-5
+returns-5 : tie.Need-returns
 unfolding reset_reference_bit table second halfword way page
 returns-5 c =
-    let call = c.before.before.before.before.before in
-    let test = call.before.before.before in
-    let here = page test.before in
-    finishes call.reset-block-key.result c.answer-after.result
-    call.reset-block-key.new.0 call.reset-block-key.new.1.0
-    (rejected _ _ _ here.runs test.if1.false) c.answer-after.ensures call.reset-block-key.ensures
+    let here = page c.before.before.before.before.before.before.before.before.before in
+    finishes c.reset_block_key.result c.answer_after.result
+    c.reset_block_key.new.storage c.reset_block_key.new.keys
+    (rejected _ _ _ here.runs c.if-page.false) c.answer_after.ensures c.reset_block_key.ensures
 
-pub reset-reference-bit-spec : {M : Type 1} → statement M
-reset-reference-bit-spec =
+pub reset_reference_bit_spec : {M : Type 1} → statement M
+reset_reference_bit_spec =
     tie.close
     (tie.spec
     (λ c κs. search rules)

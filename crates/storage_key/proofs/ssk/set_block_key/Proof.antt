@@ -21,50 +21,44 @@ abbrev stage : tie.Start → Steps Completion
 stage c = set_block_key c.args.call c.args.page
 
 -- step 11: the key
-abbrev consulted : tie.After-consult-key → Asked entry stage
+abbrev consulted : tie.After-consult_key-consulted → Asked entry stage
 unfolding set_block_key
 consulted c =
-    let start = c.before.before.before.before in
-    let s = start.args.storage.now in
-    asks start _ _ (begin (entry start) (stage start)) c.consult-key.result s c.consult-key.new.0
-    (fresh _ _ (c.consult-key.ensures s))
+    let s = c.args.storage.now in
+    asks c.before.before.before.before _ _ (begin (entry c.before.before.before.before) (stage c.before.before.before.before)) c.consult_key-consulted.result s c.consult_key-consulted.new.keys
+    (fresh _ _ (c.consult_key-consulted.ensures s))
 
-returns : tie.Need-returns
+returns : tie.Need-returns-in_default
 unfolding set_block_key consulted
 returns c =
-    let asked = consulted c.before.before.before.before.before in
+    let asked = consulted c.before.before.before.before in
     ended_with c.ending.result asked c.ending.ensures
-    c.before.enum_told.given.1
+    c.in_default.is
 
 -- step 11, the new key: it was consulted, so it is there
-put-key-requires : tie.Need-put-key-requires
+put-key-requires : tie.Need-put_key-requires
 unfolding set_block_key consulted
 put-key-requires c κs =
-    let at = c.before.before.before.before in
-    let call = at.before.before.before.before in
-    let asked = consulted call in
-    let there = sure _ asked at.consulted.given.1
+    let asked = consulted c.before.before.before.before.before.before in
+    let there = sure _ asked c.in-Value.is
     (consult_key-gives (length asked.left.storage) (length asked.left.keys) Whole _ _) in
-    omega (arith, there, call.consult-key.auto.0)
+    omega (arith, there, c.consult_key-consulted.auto.keys)
 
 -- and step 12
-returns-2 : tie.Need-returns-2
+returns-2 : tie.Need-returns
 unfolding store_swap_word set_block_key consulted
 returns-2 c =
-    let put = c.before.before.before.before.before in
-    let set = put.before.before.before.before.before.before in
-    let old = set.before.before.before.before.before in
-    let here = given (consulted old.before.before.before.before) old.consulted.given.1 in
+    let here = given (consulted c.before.before.before.before.before.before.before.before.before.before.before.before.before.before.before.before.before.before) c.in-Value.is in
     let a = here.start.args in
-    let swap = swap_with a.page (word 24 30 (key_word a.call) * 2) (bits 8 5 6 old.consulted.given.0.0) in
-    let first = simp (set.before.new-key.ensures, set.before.before.key-word.ensures) at
-    (set.put-key.ensures a.storage.now) in
-    let second = simp put.before.swap-word.ensures at put.put-swap-word.ensures in
-    completes c.completed.result put.put-swap-word.new.0 put.put-swap-word.new.1.0 _
+    let swap = swap_with a.page (word 24 30 (key_word a.call) * 2) (bits 8 5 6 c.in-Value.old) in
+    let first = simp (c.new_key.ensures, c.key_word.ensures) at
+    (c.put_key.ensures a.storage.now) in
+    let second = simp c.swap_word.ensures at c.put_swap_word.ensures in
+    completes c.completed.result c.put_swap_word.new.storage c.put_swap_word.new.keys _
     here.runs c.completed.ensures (second ∙ ap (λ m. perform m (store a.page.place 4 swap)) first)
 
-pub set-block-key-spec : {M : Type 1} → statement M
-set-block-key-spec =
+pub set_block_key_spec : {M : Type 1} → statement M
+set_block_key_spec =
     tie.close
     (tie.spec
     (λ c κs. search rules)

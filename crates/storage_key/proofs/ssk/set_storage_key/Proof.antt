@@ -17,97 +17,82 @@ abbrev stage : tie.Start → Steps Completion
 stage c = set_storage_key c.args.call
 
 -- steps 1 to 3
-abbrev table : tie.After-segment-table → Asked entry stage
+abbrev table : tie.After-segment_table-table → Asked entry stage
 unfolding set_storage_key
 table c =
-    let start = c.before.before.before.before.before.before.before.before.before in
-    asks start _ _ (begin (entry start) (stage start)) c.segment-table.result start.args.storage.now
-    c.segment-table.new.1.0
+    asks c.before.before.before.before.before.before.before.before _ _ (begin (entry c.before.before.before.before.before.before.before.before) (stage c.before.before.before.before.before.before.before.before)) c.segment_table-table.result c.args.storage.now
+    c.segment_table-table.new.keys
     (fresh _ _
-    (simp (c.before.steps.ensures, c.before.before.assists-keys.ensures) at c.segment-table.ensures))
+    (simp (c.steps.ensures, c.assists_keys.ensures) at c.segment_table-table.ensures))
 
-returns : tie.Need-returns
+returns : tie.Need-returns-in_default
 unfolding set_storage_key table
 returns c =
-    let asked = table c.before.before.before.before.before in
+    let asked = table c.before.before.before.before in
     ended_with c.ending.result asked c.ending.ensures
-    c.before.enum_told.given.1
-
--- where the address was taken
-abbrev address : tie.After-segment-table → tie.After-address-word
-address c = c.before.before.before.before.before
+    c.in_default.is
 
 -- steps 4 to 10
-abbrev way : tie.After-after → Sought entry stage
+abbrev way : tie.After-after-found → Sought entry stage
 unfolding set_storage_key table
 way c =
-    let call = c.before.before.before in
-    let at = call.before.before.before.before.before in
-    let here = given (table at.before.before.before.before) at.table.given.1 in
-    seeks_after here.start _ _ here.runs call.find-page.result c.after.result
-    here.start.args.storage.now call.find-page.new.1.0 c.after.ensures
-    (simp (call.before.steps2.ensures, (address at.before.before.before.before).address_word.ensures) at
-    call.find-page.ensures)
+    let here = given (table c.before.before.before.before.before.before.before.before.before) c.in-Value.is in
+    seeks_after here.start _ _ here.runs c.find_page.result c.after-found.result
+    here.start.args.storage.now c.find_page.new.keys c.after-found.ensures
+    (simp (c.steps-2.ensures, c.address_word-at.ensures) at
+    c.find_page.ensures)
 
-returns-2 : tie.Need-returns-2
+returns-2 : tie.Need-returns-in_default-found
 unfolding set_storage_key table way
 returns-2 c =
-    let sought = way c.before.before.before in
-    ended_on_way c.ending2.result sought c.ending2.ensures
-    c.before.enum-told2.given.1
+    let sought = way c.before.before in
+    ended_on_way c.ending-in_default-found.result sought c.ending-in_default-found.ensures
+    c.in_default-found.is
 
-abbrev page : tie.After-known-told2 → Reached entry stage
+abbrev page : tie.In-Page → Reached entry stage
 unfolding set_storage_key table way
-page c = let at = c.before in found (way at.before.before) at.found.given.1
+page c = found (way c.before) c.in-Page.is
 
 -- step 11, the page is invalid: step 12 alone
-put-swap-word-requires : tie.Need-put-swap-word-requires
+put-swap-word-requires : tie.Need-put_swap_word-requires
 unfolding set_storage_key table way
 put-swap-word-requires c κs =
-    let at = c.before.before.before.before.before in
-    swap_there (way at.before.before) at.found.given.1 _ _ _ refl
+    swap_there (way c.before.before.before.before.before) c.in-Page.is _ _ _ refl
 
-same-length-6 : tie.Need-same-length-6
+same-length-6 : tie.Need-shape_of-keys-then-page
 unfolding set_storage_key table way page
 same-length-6 c =
-    let put = c.before.before.before.before.before in
-    put.put-swap-word.auto.1.0 ∙ reached_keys (page put.before.before.before.before.before)
+    c.put_swap_word.auto.keys ∙ reached_keys (page c.before.before.before.before.before.before.before.before.before.before)
 
-returns-3 : tie.Need-returns-3
+returns-3 : tie.Need-returns-then-page
 unfolding set_storage_key store_swap_word table way page
 returns-3 c =
-    let put = c.before.before.before.before.before in
-    let test = put.before.before.before.before in
-    let here = page test.before in
-    completes c.completed.result put.put-swap-word.new.0 put.put-swap-word.new.1.0
-    _ (chosen _ _ _ here.runs test.if1.true) c.completed.ensures
-    (simp put.before.swap-word.ensures at put.put-swap-word.ensures)
+    let here = page c.before.before.before.before.before.before.before.before.before.before in
+    completes c.completed.result c.put_swap_word.new.storage c.put_swap_word.new.keys
+    _ (chosen _ _ _ here.runs c.if-page.true) c.completed.ensures
+    (simp c.swap_word.ensures at c.put_swap_word.ensures)
 
 -- it is valid: steps 11 and 12
-set-block-key-requires : tie.Need-set-block-key-requires
+set-block-key-requires : tie.Need-set_block_key-requires
 unfolding set_storage_key table way
 set-block-key-requires c κs =
-    let at = c.before.before.before.before in
-    swap_there (way at.before.before) at.found.given.1 _ _ _ refl
+    swap_there (way c.before.before.before.before) c.in-Page.is _ _ _ refl
 
-same-length-8 : tie.Need-same-length-8
+same-length-8 : tie.Need-shape_of-keys
 unfolding set_storage_key table way page
 same-length-8 c =
-    let call = c.before.before.before.before.before in
-    call.set-block-key.auto.1.0 ∙ reached_keys (page call.before.before.before.before)
+    c.set_block_key.auto.keys ∙ reached_keys (page c.before.before.before.before.before.before.before.before.before)
 
-returns-4 : tie.Need-returns-4
+returns-4 : tie.Need-returns
 unfolding set_storage_key table way page
 returns-4 c =
-    let call = c.before.before.before.before.before in
-    let test = call.before.before.before in
-    let here = page test.before in
-    finishes call.set-block-key.result c.answer-after.result
-    call.set-block-key.new.0 call.set-block-key.new.1.0
-    (rejected _ _ _ here.runs test.if1.false) c.answer-after.ensures call.set-block-key.ensures
+    let here = page c.before.before.before.before.before.before.before.before.before in
+    finishes c.set_block_key.result c.answer_after.result
+    c.set_block_key.new.storage c.set_block_key.new.keys
+    (rejected _ _ _ here.runs c.if-page.false) c.answer_after.ensures c.set_block_key.ensures
 
-pub set-storage-key-spec : {M : Type 1} → statement M
-set-storage-key-spec =
+pub set_storage_key_spec : {M : Type 1} → statement M
+set_storage_key_spec =
     tie.close
     (tie.spec
     (λ c κs. search rules)

@@ -9,74 +9,57 @@ use Rattle.storage_key.proofs.stores.put_swap_word.Tie as tie
 
 -- ---- a word that goes round the top
 
-put-bytes-requires : tie.Need-put-bytes-requires
+put-bytes-requires : tie.Need-put_bytes-requires
 put-bytes-requires c κs =
-    let third = c.before in
-    let second = third.before in
-    let first = second.before in
-    let start = first.before.before.before.before in
-    let a = start.args in
-    let there = each_there (length a.storage.now) (addresses a.at 4) start.requires in
-    simp (third.sum3.ensures, second.sum2.ensures, first.sum.ensures)
+    let a = c.args in
+    let there = each_there (length a.storage.now) (addresses a.at 4) c.requires in
+    simp (c.sum-fourth.ensures, c.sum-third.ensures, c.sum-second.ensures)
     (there.0, there.1.0, there.1.1.0, there.1.1.1.0)
 
-returns : tie.Need-returns
+returns : tie.Need-returns-then-at-gt16777212
 returns c =
-    let recorded = c.before.before in
-    let put = recorded.before.before.before.before in
-    let third = put.before.before in
-    let second = third.before in
-    let first = second.before in
     simp (
-      put.put_bytes.ensures,
-      third.sum3.ensures,
-      second.sum2.ensures,
-      first.sum.ensures,
-      recorded.record-word.ensures,
+      c.put_bytes.ensures,
+      c.sum-fourth.ensures,
+      c.sum-third.ensures,
+      c.sum-second.ensures,
+      c.record_word.ensures,
     )
 
 -- ---- one that doesn't: its addresses follow each other
 
-put-bytes-requires-2 : tie.Need-put-bytes-requires-2
+put-bytes-requires-2 : tie.Need-put_bytes-requires-2
 put-bytes-requires-2 c κs =
-    let test = c.before in
-    let below = test.if1.false in
-    let start = test.before.before.before in
-    let a = start.args in
-    let there = each_there (length a.storage.now) (addresses a.at 4) start.requires in
+    let below = c.if-at-gt16777212.false in
+    let a = c.args in
+    let there = each_there (length a.storage.now) (addresses a.at 4) c.requires in
     let last = there.1.1.1.0 in
     (omega arith, omega arith, omega arith, omega arith)
 
-in_place : (c : tie.After-put-bytes2)
-    → let a = c.before.before.before.before.before.args in
-    c.put-bytes2.new.0 ≡ stored a.storage.now (addresses a.at 4) a.value
+in_place : (c : tie.After-put_bytes-2)
+    → let a = c.args in
+    c.put_bytes-2.new.storage ≡ stored a.storage.now (addresses a.at 4) a.value
 in_place c =
-    let test = c.before.before in
-    let below = test.if1.false in
-    let a = test.before.before.before.args in
-    c.put-bytes2.ensures ∙ ap (λ at. stored a.storage.now at a.value) (sym (straight a.at (omega arith)))
+    let below = c.if-at-gt16777212.false in
+    let a = c.args in
+    c.put_bytes-2.ensures ∙ ap (λ at. stored a.storage.now at a.value) (sym (straight a.at (omega arith)))
 
 -- across a block boundary, and in one block
-returns-2 : tie.Need-returns-2
+returns-2 : tie.Need-returns-then-is_across
 returns-2 c =
-    let recorded = c.before.before in
-    let put = recorded.before.before.before.before.before.before in
-    simp (in_place put, recorded.record-word2.ensures)
+    simp (in_place c.before.before.before.before.before.before.before.before, c.record_word-then-is_across.ensures)
 
-returns-3 : tie.Need-returns-3
+returns-3 : tie.Need-returns
 returns-3 c =
-    let recorded = c.before.before in
-    let test = recorded.before.before in
-    let put = test.before.before.before.before in
-    let a = put.before.before.before.before.before.args in
+    let a = c.args in
     simp (
-      in_place put,
-      one_block a.at (sym test.before.is-across.ensures ∙ test.if2.false) Store a.keys.now
-          recorded.record-byte.ensures,
+      in_place c.before.before.before.before.before.before.before.before,
+      one_block a.at (sym c.is_across.ensures ∙ c.if-is_across.false) Store a.keys.now
+          c.record_byte.ensures,
     )
 
-pub put-swap-word-spec : {M : Type 1} → statement M
-put-swap-word-spec =
+pub put_swap_word_spec : {M : Type 1} → statement M
+put_swap_word_spec =
     tie.close
     (tie.spec
     (λ c κs. search rules)

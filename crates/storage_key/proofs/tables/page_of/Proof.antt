@@ -15,37 +15,34 @@ abbrev stage : tie.Start → Steps ℕ
 stage c = page_of c.args.numbers c.args.format c.args.segment c.args.at
 
 -- step 9
-abbrev fetched : tie.After-page-entry → Asked entry stage
+abbrev fetched : tie.After-page_entry-entry → Asked entry stage
 unfolding page_of
 fetched c =
-    let start = c.before.before.before.before in
-    asks start _ _ (begin (entry start) (stage start)) c.page-entry.result start.args.storage.now
-    c.page-entry.new.1.0 (fresh _ _ c.page-entry.ensures)
+    asks c.before.before.before.before _ _ (begin (entry c.before.before.before.before) (stage c.before.before.before.before)) c.page_entry-entry.result c.args.storage.now
+    c.page_entry-entry.new.keys (fresh _ _ c.page_entry-entry.ensures)
 
-returns : tie.Need-returns
+returns : tie.Need-returns-in_default
 unfolding page_of fetched
-returns c = handed (fetched c.before.before.before.before) c.enum_told.given.1
+returns c = handed (fetched c.before.before.before) c.in_default.is
 
 -- step 10
-abbrev form : tie.After-is-malformed → Tested entry stage
+abbrev form : tie.After-is_malformed → Tested entry stage
 unfolding page_of fetched
 form c =
-    let validity = c.before in
-    let found = validity.before.before in
-    let here = given (fetched found.before.before.before.before) found.entry.given.1 in
-    tests here.start _ _ _ here.runs (not validity.is-invalid.result && c.is-malformed.result)
-    (simp (validity.is-invalid.ensures, c.is-malformed.ensures))
+    let here = given (fetched c.before.before.before.before.before) c.in-Value.is in
+    tests here.start _ _ _ here.runs (not c.is_invalid.result && c.is_malformed.result)
+    (simp (c.is_invalid.ensures, c.is_malformed.ensures))
 
-returns-2 : tie.Need-returns-2
+returns-2 : tie.Need-returns-then-is_invalid-is_malformed
 unfolding page_of fetched form
-returns-2 c = stopped (form c.before) c.if1.true
+returns-2 c = stopped (form c.before) c.if-is_invalid-is_malformed.true
 
-returns-3 : tie.Need-returns-3
+returns-3 : tie.Need-returns
 unfolding page_of fetched form
-returns-3 c = settles _ (passed (form c.before) c.if1.false).runs
+returns-3 c = settles _ (passed (form c.before) c.if-is_invalid-is_malformed.false).runs
 
-pub page-of-spec : {M : Type 1} → statement M
-page-of-spec =
+pub page_of_spec : {M : Type 1} → statement M
+page_of_spec =
     tie.close
     (tie.spec
     (λ c κs. search rules)

@@ -1,4 +1,4 @@
-use Rattle.std.proofs.Common.{ℕ, rules, eq-eqb, ne_eqb}
+use Rattle.std.proofs.Common.{ℕ, not, ap, rules, eq-eqb, ne_eqb}
 use Rattle.rules.specs.Machine.{Machine}
 use Rattle.rules.specs.Steps.{Steps}
 use Rattle.rules.specs.SwapTables.{segment_table}
@@ -15,41 +15,38 @@ abbrev stage : tie.Start → Steps ℕ
 stage c = segment_table c.args.assists c.args.numbers c.args.guest
 
 -- step 1
-returns : tie.Need-returns
+returns : tie.Need-returns-then-not-assists
 unfolding segment_table
 returns c =
-    let start = c.before.before.before in
-    stops _ _ _ (begin (entry start) (stage start)) c.if1.true
+    stops _ _ _ (begin (entry c.before.before.before) (stage c.before.before.before)) (ap not c.if-not-assists.true)
 
 -- step 2: MICRSEG
-abbrev field : tie.After-micblok-word → Asked entry stage
+abbrev field : tie.After-micblok_word-field → Asked entry stage
 unfolding segment_table
 field c =
-    let on = c.before.before in
-    let start = on.before.before.before in
-    asks start _ _ (pass _ _ _ (begin (entry start) (stage start)) on.if1.false)
-    c.micblok-word.result start.args.storage.now c.micblok-word.new.1.0
-    (fresh _ _ c.micblok-word.ensures)
+    asks c.before.before.before.before.before _ _ (pass _ _ _ (begin (entry c.before.before.before.before.before) (stage c.before.before.before.before.before)) (ap not c.if-not-assists.false))
+    c.micblok_word-field.result c.args.storage.now c.micblok_word-field.new.keys
+    (fresh _ _ c.micblok_word-field.ensures)
 
-returns-2 : tie.Need-returns-2
+returns-2 : tie.Need-returns-in_default
 unfolding segment_table field
-returns-2 c = handed (field c.before.before.before.before) c.enum_told.given.1
+returns-2 c = handed (field c.before.before.before) c.in_default.is
 
-abbrev rseg : tie.After-known-told → Reached entry stage
+abbrev rseg : tie.In-Value → Reached entry stage
 unfolding segment_table field
-rseg c = given (field c.before.before.before.before.before) c.before.field.given.1
+rseg c = given (field c.before.before.before) c.in-Value.is
 
 -- step 3
-returns-3 : tie.Need-returns-3
+returns-3 : tie.Need-returns-then-rseg-eq1
 unfolding segment_table field rseg
-returns-3 c = stops _ _ _ (rseg c.before).runs (eq-eqb _ _ c.if2.true)
+returns-3 c = stops _ _ _ (rseg c.before).runs (eq-eqb _ _ c.if-rseg-eq1.true)
 
-returns-4 : tie.Need-returns-4
+returns-4 : tie.Need-returns
 unfolding segment_table field rseg
-returns-4 c = settles _ (pass _ _ _ (rseg c.before).runs (ne_eqb _ _ c.if2.false))
+returns-4 c = settles _ (pass _ _ _ (rseg c.before).runs (ne_eqb _ _ c.if-rseg-eq1.false))
 
-pub segment-table-spec : {M : Type 1} → statement M
-segment-table-spec =
+pub segment_table_spec : {M : Type 1} → statement M
+segment_table_spec =
     tie.close
     (tie.spec
     returns

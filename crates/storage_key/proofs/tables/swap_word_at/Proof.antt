@@ -14,29 +14,25 @@ entry c = machine c.args.storage.now c.args.keys.now
 abbrev stage : tie.Start → Steps ℕ
 stage c = swap_word_at c.args.numbers c.args.format c.args.segment c.args.at
 
-abbrev field : tie.After-control-word → Asked entry stage
+abbrev field : tie.After-control_word-field → Asked entry stage
 unfolding swap_word_at
 field c =
-    let place = c.before.before in
-    let start = place.before.before.before.before in
-    asks start _ _ (begin (entry start) (stage start)) c.control-word.result start.args.storage.now
-    c.control-word.new.1.0
-    (fresh _ _ (simp (place.difference.ensures, place.before.page-table.ensures) at c.control-word.ensures))
+    asks c.before.before.before.before.before.before _ _ (begin (entry c.before.before.before.before.before.before) (stage c.before.before.before.before.before.before)) c.control_word-field.result c.args.storage.now
+    c.control_word-field.new.keys
+    (fresh _ _ (simp (c.difference-place.ensures, c.page_table.ensures) at c.control_word-field.ensures))
 
-returns : tie.Need-returns
+returns : tie.Need-returns-in_default
 unfolding swap_word_at field
-returns c = handed (field c.before.before.before.before) c.enum_told.given.1
+returns c = handed (field c.before.before.before) c.in_default.is
 
-returns-2 : tie.Need-returns-2
+returns-2 : tie.Need-returns
 unfolding swap_word_at field
 returns-2 c =
-    let index = c.before.before in
-    let found = index.before.before in
-    simp (c.sum.ensures, c.before.address-in.ensures, index.page_index_lem.ensures.0)
-    (settles _ (given (field found.before.before.before.before) found.field.given.1).runs)
+    simp (c.sum.ensures, c.address_in.ensures, c.page_index-offset.ensures.0)
+    (settles _ (given (field c.before.before.before.before.before.before) c.in-Value.is).runs)
 
-pub swap-word-at-spec : {M : Type 1} → statement M
-swap-word-at-spec =
+pub swap_word_at_spec : {M : Type 1} → statement M
+swap_word_at_spec =
     tie.close
     (tie.spec
     (λ c κs. search rules)

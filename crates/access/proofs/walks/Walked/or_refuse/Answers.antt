@@ -1,4 +1,3 @@
-use Rattle.std.proofs.Common.{rules}
 use Rattle.access.proofs.walks.Walked.or_refuse.Goals as goal
 
 pub returns-in-Found : goal.returns-in-Found

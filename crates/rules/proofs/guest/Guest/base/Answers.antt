@@ -1,4 +1,4 @@
-use Rattle.std.proofs.Common.{◌≡◌, ℕ, zero, suc, refl, ap, ◌∙◌, rules}
+use Rattle.std.proofs.Common.{◌≡◌, ℕ, zero, suc, refl, ap, ◌∙◌}
 use Rattle.rules.specs.Bits.{word}
 use Rattle.rules.specs.Guest.{Guest, register, base}
 use Rattle.rules.proofs.guest.Guest.base.Goals as goal

@@ -1,7 +1,6 @@
 use Rattle.std.proofs.Common.{◌≡◌, ℕ, ◌+◌, ◌*◌, ◌/◌, ◌^◌, ◌<◌, ◌≤◌, length, set, sym, ap, ◌∙◌, arith, rules}
 use lib.Seq.{set_out}
 use Rattle.rules.specs.Bits.{bits, word}
-use Rattle.rules.specs.Guest.{Guest}
 use Rattle.rules.proofs.guest.Guest.with_byte.Goals as goal
 
 -- a word's first three bytes, and then another byte

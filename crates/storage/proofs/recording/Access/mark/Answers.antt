@@ -1,4 +1,3 @@
-use Rattle.std.proofs.Common.{rules}
 use Rattle.storage.proofs.recording.Access.mark.Goals as goal
 
 pub returns-in-Fetch : goal.returns-in-Fetch

@@ -1,4 +1,3 @@
-use Rattle.std.proofs.Common.{rules}
 use Rattle.storage.proofs.steps.Stepped.or_refuse.Goals as goal
 
 pub returns-in-Value : goal.returns-in-Value

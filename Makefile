@@ -25,7 +25,7 @@ test:
 	tools/gate
 
 library:
-	rt staticlib vma
+	tools/library
 
 bench: library
 	tools/vma bench
@@ -37,15 +37,15 @@ fuzz: library
 	tools/vma fuzz $(SEED) $(CALLS)
 
 edges:
-	rt check edges
+	tools/build-program edges
 	tools/proved edges
 
 trail:
-	rt check eight_calls
+	tools/build-program eight_calls
 	tools/proved eight_calls
 
 vectors:
-	rt check vectors
+	tools/build-program vectors
 	tools/compare-vectors --seed $(SEED) --calls $(CALLS)
 	tools/compare-vectors --seed $(SEED) --large
 

@@ -1,4 +1,4 @@
-// The library that C programs link: three entries, on bytes, words and numbers. include/vma.h declares them.
+// What the library for C programs does: three functions, on bytes, words and numbers. The crate vma_c exports them.
 #![tactic(auto)]
 
 ghost use Rattle.std.specs.Prelude.{◌≡◌, length};
@@ -21,8 +21,7 @@ mod packing;
 // One attempt. The storage, keys and record of the caller are changed in place, and only on completion; in the record
 // the instruction address, and the result of ISK or RRB. But references are recorded in the keys as they are made, and
 // stay recorded whatever the ending. Every call is answered, whatever is lent.
-#[unsafe(no_mangle)]
-pub extern "C" fn vma_attempt(
+pub fn vma_attempt(
     storage: &mut [u8],
     keys: &mut [u8],
     guest: &mut [u32; 21],
@@ -64,8 +63,7 @@ pub extern "C" fn vma_attempt(
 }
 
 // Starts a trail in a lent buffer. Every call is answered, whatever is lent.
-#[unsafe(no_mangle)]
-pub extern "C" fn vma_trail_start(buffer: &mut [u8]) -> u64
+pub fn vma_trail_start(buffer: &mut [u8]) -> u64
     ensures result { result ≡ packed_trail (start buffer.old) }
     ensures refusal { refusal_in result ≡ refusal_number (start buffer.old).refusal }
     ensures held { held_in result ≡ (start buffer.old).held }
@@ -76,8 +74,7 @@ pub extern "C" fn vma_trail_start(buffer: &mut [u8]) -> u64
 
 // Writes a call down in a trail: the guest's number, its record before and after the call, and the answer as
 // `vma_attempt` packed it.
-#[unsafe(no_mangle)]
-pub extern "C" fn vma_trail_write(
+pub fn vma_trail_write(
     buffer: &mut [u8],
     held: u32,
     number: u32,

@@ -10,6 +10,11 @@ pub(crate) fn run_system_masks(
     storage: &mut Storage,
     keys: &mut Keys,
 ) -> io::Result<()> {
+    run_set_edges(rt, storage, keys)?;
+    run_store_then_edges(rt, storage, keys)
+}
+
+fn run_set_edges(rt: &impl Print, storage: &mut Storage, keys: &mut Keys) -> io::Result<()> {
     run_each(
         rt,
         storage,
@@ -31,7 +36,10 @@ pub(crate) fn run_system_masks(
           SSM   (*) BC, pending, old 00, new 01, expanded installed, bit 6 zero\n\
           SSM   BC, pending, old 00, new 01, expanded not installed, bit 6 one\n\
           SSM   BC, pending, old 00, new 01, expanded not installed, bit 6 zero\n",
-    )?;
+    )
+}
+
+fn run_store_then_edges(rt: &impl Print, storage: &mut Storage, keys: &mut Keys) -> io::Result<()> {
     run_each(
         rt,
         storage,

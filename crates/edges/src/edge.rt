@@ -116,12 +116,10 @@ impl Edge {
     // What stands at a place where `otherwise` stood at first.
     pub(crate) fn value_at(self, place: u32, otherwise: u32) -> u32 {
         let mut value = otherwise;
-        let mut i = 0;
-        while i < ROOM {
+        for i in 0..ROOM {
             if self.places[i] == place {
                 value = self.values[i];
             }
-            i += 1;
         }
         value
     }

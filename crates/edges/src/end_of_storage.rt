@@ -3,9 +3,15 @@
 use crate::edge::{EC, Edge};
 use crate::places::{LAST_HALFWORD, LAST_WORD, MICVPSW, REAL_PAGE_TABLE};
 use crate::run::{Group, Keys, Storage, run_each};
+use std::io;
 
-pub(crate) fn run_end_of_storage(storage: &mut Storage, keys: &mut Keys) {
+pub(crate) fn run_end_of_storage(
+    rt: &impl Print,
+    storage: &mut Storage,
+    keys: &mut Keys,
+) -> io::Result<()> {
     run_each(
+        rt,
         storage,
         keys,
         Group::EndOfStorage,
@@ -20,7 +26,7 @@ pub(crate) fn run_end_of_storage(storage: &mut Storage, keys: &mut Keys) {
           SSK   invalid page, swap word in the last word of storage\n\
           RRB   key of the last block, swap word in that block\n\
           RRB   swap word one byte on, its last byte not in storage\n",
-    );
+    )
 }
 
 fn last_virtual_psw(edge: Edge, halfword: u16) -> Edge {

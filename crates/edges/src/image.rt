@@ -48,9 +48,7 @@ pub(crate) fn initial(edge: Edge, part: Part, i: usize) -> u8 {
 }
 
 pub(crate) fn fill(lent: &mut [u8], edge: Edge, part: Part) {
-    let mut i = 0;
-    while i < lent.len() {
+    for i in 0..lent.len() {
         lent[i] = initial(edge, part, i);
-        i += 1;
     }
 }

@@ -2,10 +2,16 @@
 use crate::edge::{BC, EC, Edge};
 use crate::places::{LAST_WORD, MICRSEG, MICVPSW, REAL_PAGE_TABLE, REAL_SEGMENT_TABLE, SWAP_TABLE};
 use crate::run::{Group, Keys, Storage, run_each};
+use std::io;
 
-pub(crate) fn run_insert_storage_key(storage: &mut Storage, keys: &mut Keys) {
-    run_results(storage, keys);
+pub(crate) fn run_insert_storage_key(
+    rt: &impl Print,
+    storage: &mut Storage,
+    keys: &mut Keys,
+) -> io::Result<()> {
+    run_results(rt, storage, keys)?;
     run_each(
+        rt,
         storage,
         keys,
         Group::InsertKeyFields,
@@ -20,13 +26,14 @@ pub(crate) fn run_insert_storage_key(storage: &mut Storage, keys: &mut Keys) {
           ISK   page invalid, MICVPSW at 4000\n\
           ISK   page valid, virtual PSW at 3FFF\n\
           ISK   page invalid, virtual PSW at 3FFF\n",
-    );
-    run_tests(storage, keys);
+    )?;
+    run_tests(rt, storage, keys)
 }
 
 // Figure 6, and where R1 is R2.
-fn run_results(storage: &mut Storage, keys: &mut Keys) {
+fn run_results(rt: &impl Print, storage: &mut Storage, keys: &mut Keys) -> io::Result<()> {
     run_each(
+        rt,
         storage,
         keys,
         Group::InsertKey,
@@ -43,12 +50,13 @@ fn run_results(storage: &mut Storage, keys: &mut Keys) {
           ISK   R1 and R2 register 4\n\
           ISK   R1 and R2 register 15\n\
           ISK   R1 and R2 register 0\n",
-    );
+    )
 }
 
 // The tests of steps 1 to 10, and recording.
-fn run_tests(storage: &mut Storage, keys: &mut Keys) {
+fn run_tests(rt: &impl Print, storage: &mut Storage, keys: &mut Keys) -> io::Result<()> {
     run_each(
+        rt,
         storage,
         keys,
         Group::InsertKeyTests,
@@ -65,7 +73,7 @@ fn run_tests(storage: &mut Storage, keys: &mut Keys) {
           ISK   MICBLOK in the page's own block\n\
           ISK   tables in the page's own block\n\
           ISK   virtual PSW in the page's own block\n",
-    );
+    )
 }
 
 // Of address 023800, in the upper block.

@@ -9,14 +9,20 @@ use crate::registers::{
     PAGES_2K_SEGMENTS_1M, PAGES_2K_SEGMENTS_64K, PAGES_4K_SEGMENTS_1M, PAGES_4K_SEGMENTS_64K,
 };
 use crate::run::{Group, Keys, Storage, run_each};
+use std::io;
 
-pub(crate) fn run_load_address_formats(storage: &mut Storage, keys: &mut Keys) {
-    run_real_4k(storage, keys);
-    run_real_2k(storage, keys);
+pub(crate) fn run_load_address_formats(
+    rt: &impl Print,
+    storage: &mut Storage,
+    keys: &mut Keys,
+) -> io::Result<()> {
+    run_real_4k(rt, storage, keys)?;
+    run_real_2k(rt, storage, keys)
 }
 
-fn run_real_4k(storage: &mut Storage, keys: &mut Keys) {
+fn run_real_4k(rt: &impl Print, storage: &mut Storage, keys: &mut Keys) -> io::Result<()> {
     run_each(
+        rt,
         storage,
         keys,
         Group::LoadAddressReal4K,
@@ -41,11 +47,12 @@ fn run_real_4k(storage: &mut Storage, keys: &mut Keys) {
           LRA   virtual pages 4K, segments 1M, real pages 4K, page entry invalid\n\
           LRA   virtual pages 4K, segments 1M, real pages 4K, segment-table length 02\n\
           LRA   virtual pages 4K, segments 1M, real pages 4K, page-table length 3\n",
-    );
+    )
 }
 
-fn run_real_2k(storage: &mut Storage, keys: &mut Keys) {
+fn run_real_2k(rt: &impl Print, storage: &mut Storage, keys: &mut Keys) -> io::Result<()> {
     run_each(
+        rt,
         storage,
         keys,
         Group::LoadAddressReal2K,
@@ -70,7 +77,7 @@ fn run_real_2k(storage: &mut Storage, keys: &mut Keys) {
           LRA   virtual pages 4K, segments 1M, real pages 2K, page entry invalid\n\
           LRA   virtual pages 4K, segments 1M, real pages 2K, segment-table length 02\n\
           LRA   virtual pages 4K, segments 1M, real pages 2K, page-table length 3\n",
-    );
+    )
 }
 
 // A virtual format: virtual control register 0, the places of its entries, and what an edge puts there.

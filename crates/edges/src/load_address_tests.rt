@@ -11,17 +11,23 @@ use crate::registers::{
     MICRSEG_2K, MICRSEG_4K, PAGES_2K_SEGMENTS_1M, PAGES_2K_SEGMENTS_64K, PAGES_4K_SEGMENTS_64K,
 };
 use crate::run::{Group, Keys, Storage, run_each};
+use std::io;
 
-pub(crate) fn run_load_address_tests(storage: &mut Storage, keys: &mut Keys) {
-    run_fields(storage, keys);
-    run_walks(storage, keys);
-    run_entries(storage, keys);
-    run_tests(storage, keys);
+pub(crate) fn run_load_address_tests(
+    rt: &impl Print,
+    storage: &mut Storage,
+    keys: &mut Keys,
+) -> io::Result<()> {
+    run_fields(rt, storage, keys)?;
+    run_walks(rt, storage, keys)?;
+    run_entries(rt, storage, keys)?;
+    run_tests(rt, storage, keys)
 }
 
 // What is not in storage: the control program's fields, in the order in which they are tried; virtual entries.
-fn run_fields(storage: &mut Storage, keys: &mut Keys) {
+fn run_fields(rt: &impl Print, storage: &mut Storage, keys: &mut Keys) -> io::Result<()> {
     run_each(
+        rt,
         storage,
         keys,
         Group::LoadAddressFields,
@@ -36,12 +42,13 @@ fn run_fields(storage: &mut Storage, keys: &mut Keys) {
           LRA   real page table of the second walk at 4000\n\
           LRA   virtual segment entry at 4910\n\
           LRA   virtual page entry at 4D12\n",
-    );
+    )
 }
 
 // Tests of the real tables.
-fn run_walks(storage: &mut Storage, keys: &mut Keys) {
+fn run_walks(rt: &impl Print, storage: &mut Storage, keys: &mut Keys) -> io::Result<()> {
     run_each(
+        rt,
         storage,
         keys,
         Group::LoadAddressWalks,
@@ -60,12 +67,13 @@ fn run_walks(storage: &mut Storage, keys: &mut Keys) {
           LRA   second walk, real page entry bit 14 one\n\
           LRA   real pages 2K, first walk, real page entry bit 13 one\n\
           LRA   real pages 2K, second walk, real page entry bit 14 one\n",
-    );
+    )
 }
 
 // Tests of the virtual tables' entries, and of virtual control register 0.
-fn run_entries(storage: &mut Storage, keys: &mut Keys) {
+fn run_entries(rt: &impl Print, storage: &mut Storage, keys: &mut Keys) -> io::Result<()> {
     run_each(
+        rt,
         storage,
         keys,
         Group::LoadAddressEntries,
@@ -80,12 +88,13 @@ fn run_entries(storage: &mut Storage, keys: &mut Keys) {
           LRA   virtual control register 0 FF87FFFF\n\
           LRA   virtual control register 0 bits 8-12 00000, second halfword not in storage\n\
           LRA   virtual control register 0 bits 8-12 00000, ECBLOK at 3FFC\n",
-    );
+    )
 }
 
 // The second halfword, control register 6, recording, and another first byte.
-fn run_tests(storage: &mut Storage, keys: &mut Keys) {
+fn run_tests(rt: &impl Print, storage: &mut Storage, keys: &mut Keys) -> io::Result<()> {
     run_each(
+        rt,
         storage,
         keys,
         Group::LoadAddressTests,
@@ -105,7 +114,7 @@ fn run_tests(storage: &mut Storage, keys: &mut Keys) {
           LRA   virtual control register 1 across a block boundary\n\
           LRA   all keys F3, real page entry of the second walk invalid\n\
           other first halfword B030\n",
-    );
+    )
 }
 
 // Virtual control register 1 isn't in storage.

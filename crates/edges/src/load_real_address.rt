@@ -11,17 +11,23 @@ use crate::places::{
 };
 use crate::registers::MICRSEG_2K;
 use crate::run::{Group, Keys, Storage, run_each};
+use std::io;
 
-pub(crate) fn run_load_real_address(storage: &mut Storage, keys: &mut Keys) {
-    run_load_address_formats(storage, keys);
-    run_tables(storage, keys);
-    run_registers(storage, keys);
-    run_load_address_tests(storage, keys);
+pub(crate) fn run_load_real_address(
+    rt: &impl Print,
+    storage: &mut Storage,
+    keys: &mut Keys,
+) -> io::Result<()> {
+    run_load_address_formats(rt, storage, keys)?;
+    run_tables(rt, storage, keys)?;
+    run_registers(rt, storage, keys)?;
+    run_load_address_tests(rt, storage, keys)
 }
 
 // Real 1M segments, and entries whose addresses go round the top.
-fn run_tables(storage: &mut Storage, keys: &mut Keys) {
+fn run_tables(rt: &impl Print, storage: &mut Storage, keys: &mut Keys) -> io::Result<()> {
     run_each(
+        rt,
         storage,
         keys,
         Group::LoadAddressTables,
@@ -35,11 +41,12 @@ fn run_tables(storage: &mut Storage, keys: &mut Keys) {
           LRA   virtual page table at FFFFF8, page-table length 4\n\
           LRA   real segment table at FFFFC0\n\
           LRA   real pages 2K, real page tables at FFFFF8\n",
-    );
+    )
 }
 
-fn run_registers(storage: &mut Storage, keys: &mut Keys) {
+fn run_registers(rt: &impl Print, storage: &mut Storage, keys: &mut Keys) -> io::Result<()> {
     run_each(
+        rt,
         storage,
         keys,
         Group::LoadAddressRegisters,
@@ -53,7 +60,7 @@ fn run_registers(storage: &mut Storage, keys: &mut Keys) {
           LRA   R1 and base register 2\n\
           LRA   R1, index and base register 15\n\
           LRA   R1 register 0, index 0\n",
-    );
+    )
 }
 
 // Virtual addresses 000002 and 000090, of entries, are in page 0 of real segment 0; that page is in frame 002.

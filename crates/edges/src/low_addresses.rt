@@ -2,9 +2,15 @@
 use crate::edge::{EC, Edge};
 use crate::places::REAL_PAGE_TABLE;
 use crate::run::{Group, Keys, Storage, run_each};
+use std::io;
 
-pub(crate) fn run_low_addresses(storage: &mut Storage, keys: &mut Keys) {
+pub(crate) fn run_low_addresses(
+    rt: &impl Print,
+    storage: &mut Storage,
+    keys: &mut Keys,
+) -> io::Result<()> {
     run_each(
+        rt,
         storage,
         keys,
         Group::LowAddresses,
@@ -30,7 +36,7 @@ pub(crate) fn run_low_addresses(storage: &mut Storage, keys: &mut Keys) {
           STNSM DAT on, operand 1FF in frame 002, bit 3 zero: stored at 21FF\n\
           STNSM DAT on, operand 1FF in frame 002, bit 3 one: protection\n\
           STNSM DAT on, operand 21FF in frame 000, bit 3 one: stored at 1FF\n",
-    );
+    )
 }
 
 fn stnsm() -> Edge {

@@ -14,6 +14,7 @@ use crate::set_storage_key::run_set_storage_key;
 use crate::store_control::run_store_control;
 use crate::system_masks::run_system_masks;
 use crate::wrong_turns::run_wrong_turns;
+use std::io;
 
 mod edge;
 mod end_of_storage;
@@ -36,21 +37,21 @@ mod system_masks;
 mod text;
 mod wrong_turns;
 
-fn run_all(storage: &mut Storage, keys: &mut Keys) {
-    run_store_control(storage, keys);
-    run_system_masks(storage, keys);
-    run_set_storage_key(storage, keys);
-    run_insert_storage_key(storage, keys);
-    run_reset_reference_bit(storage, keys);
-    run_load_real_address(storage, keys);
-    run_recording(storage, keys);
-    run_low_addresses(storage, keys);
-    run_end_of_storage(storage, keys);
-    run_wrong_turns(storage, keys);
+fn run_all(rt: &impl Print, storage: &mut Storage, keys: &mut Keys) -> io::Result<()> {
+    run_store_control(rt, storage, keys)?;
+    run_system_masks(rt, storage, keys)?;
+    run_set_storage_key(rt, storage, keys)?;
+    run_insert_storage_key(rt, storage, keys)?;
+    run_reset_reference_bit(rt, storage, keys)?;
+    run_load_real_address(rt, storage, keys)?;
+    run_recording(rt, storage, keys)?;
+    run_low_addresses(rt, storage, keys)?;
+    run_end_of_storage(rt, storage, keys)?;
+    run_wrong_turns(rt, storage, keys)
 }
 
-fn main() {
+fn main(rt: HostRuntime) -> io::Result<()> {
     let mut storage = [0u8; STORAGE_BYTES];
     let mut keys = [0u8; KEY_COUNT];
-    run_all(&mut storage, &mut keys);
+    run_all(&rt, &mut storage, &mut keys)
 }

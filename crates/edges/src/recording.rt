@@ -2,9 +2,15 @@
 use crate::edge::{EC, Edge};
 use crate::places::{MICCREG, MICVPSW, REAL_PAGE_TABLE};
 use crate::run::{Group, Keys, Storage, run_each};
+use std::io;
 
-pub(crate) fn run_recording(storage: &mut Storage, keys: &mut Keys) {
+pub(crate) fn run_recording(
+    rt: &impl Print,
+    storage: &mut Storage,
+    keys: &mut Keys,
+) -> io::Result<()> {
     run_each(
+        rt,
         storage,
         keys,
         Group::Recording,
@@ -16,7 +22,7 @@ pub(crate) fn run_recording(storage: &mut Storage, keys: &mut Keys) {
           STNSM EC, old 07, AND F8, refused after two fetches, whose reference bits stay\n\
           SSM   virtual PSW partly not in storage records nothing there\n\
           STCTL words in two blocks, the second protected: the store test records nothing\n",
-    );
+    )
 }
 
 // SSK whose page is in frame 000: its lower block has the MICBLOK, its upper block the tables.

@@ -2,10 +2,16 @@
 use crate::edge::Edge;
 use crate::places::{MICRSEG, REAL_SEGMENT_TABLE};
 use crate::run::{Group, Keys, Storage, run_each};
+use std::io;
 
-pub(crate) fn run_reset_reference_bit(storage: &mut Storage, keys: &mut Keys) {
-    run_codes(storage, keys);
+pub(crate) fn run_reset_reference_bit(
+    rt: &impl Print,
+    storage: &mut Storage,
+    keys: &mut Keys,
+) -> io::Result<()> {
+    run_codes(rt, storage, keys)?;
     run_each(
+        rt,
         storage,
         keys,
         Group::ResetBitFields,
@@ -16,13 +22,14 @@ pub(crate) fn run_reset_reference_bit(storage: &mut Storage, keys: &mut Keys) {
           RRB   swap word at 3FFF\n\
           RRB   page table at 4000\n\
           RRB   page in frame 0FF\n",
-    );
-    run_tests(storage, keys);
+    )?;
+    run_tests(rt, storage, keys)
 }
 
 // Condition codes, keys and swap words.
-fn run_codes(storage: &mut Storage, keys: &mut Keys) {
+fn run_codes(rt: &impl Print, storage: &mut Storage, keys: &mut Keys) -> io::Result<()> {
     run_each(
+        rt,
         storage,
         keys,
         Group::ResetBit,
@@ -46,12 +53,13 @@ fn run_codes(storage: &mut Storage, keys: &mut Keys) {
           RRB   page invalid, swap word 50C3FFFF, bit 20 one\n\
           RRB   page invalid, swap word 5FC3F9F9, bit 20 one\n\
           RRB   operand 023FFF\n",
-    );
+    )
 }
 
 // The tests of steps 1 to 4, their order, recording, and B2 with another second byte.
-fn run_tests(storage: &mut Storage, keys: &mut Keys) {
+fn run_tests(rt: &impl Print, storage: &mut Storage, keys: &mut Keys) -> io::Result<()> {
     run_each(
+        rt,
         storage,
         keys,
         Group::ResetBitTests,
@@ -69,7 +77,7 @@ fn run_tests(storage: &mut Storage, keys: &mut Keys) {
           RRB   DAT on, instruction's page in frame 001\n\
           other first halfword B212\n\
           other first halfword B214\n",
-    );
+    )
 }
 
 // An invalid page, both keys FF.

@@ -10,6 +10,7 @@ use crate::{
     load_real_address, low_addresses, recording, reset_reference_bit, set_storage_key,
     store_control, system_masks, wrong_turns,
 };
+use std::io;
 
 pub(crate) const STORAGE_BYTES: usize = 4194304;
 
@@ -80,39 +81,38 @@ fn edge_of(group: Group, number: usize) -> Edge {
 
 // Runs the edges of a group, of which there are `count`. Each has its instruction and its case in a line of `cases`.
 pub(crate) fn run_each(
+    rt: &impl Print,
     storage: &mut Storage,
     keys: &mut Keys,
     group: Group,
     count: usize,
     cases: &[u8],
-) {
-    let mut number = 0;
-    while number < count {
-        print_line(cases, number);
-        run(storage, keys, edge_of(group, number));
-        number += 1;
+) -> io::Result<()> {
+    for number in 0..count {
+        print_line(rt, cases, number)?;
+        run(rt, storage, keys, edge_of(group, number))?;
     }
+    Ok(())
 }
 
 // In the first bytes of the storage and the first keys that are lent, as many as the edge has.
-fn run(storage: &mut [u8], keys: &mut [u8], edge: Edge) {
+fn run(rt: &impl Print, storage: &mut [u8], keys: &mut [u8], edge: Edge) -> io::Result<()> {
     let size = edge.size;
     let key_count = size / KEY_BLOCK;
     if storage.len() >= size {
         if keys.len() >= key_count {
-            run_in(&mut storage[0..size], &mut keys[0..key_count], edge);
-            return;
+            return run_in(rt, &mut storage[0..size], &mut keys[0..key_count], edge);
         }
     }
-    print(b" | no room for its storage and keys\n");
+    print(rt, b" | no room for its storage and keys\n")
 }
 
-fn run_in(storage: &mut [u8], keys: &mut [u8], edge: Edge) {
+fn run_in(rt: &impl Print, storage: &mut [u8], keys: &mut [u8], edge: Edge) -> io::Result<()> {
     fill(storage, edge, Part::Storage);
     fill(keys, edge, Part::Keys);
     let answer = assist::attempt(storage, keys, edge.guest(), edge.first, edge.installed);
-    print_answer(answer, edge.first);
-    print_changes(storage, edge, Part::Storage);
-    print_changes(keys, edge, Part::Keys);
-    print(b"\n");
+    print_answer(rt, answer, edge.first)?;
+    print_changes(rt, storage, edge, Part::Storage)?;
+    print_changes(rt, keys, edge, Part::Keys)?;
+    print(rt, b"\n")
 }

@@ -1,16 +1,22 @@
 // SET STORAGE KEY.
 use crate::edge::Edge;
 use crate::run::{Group, Keys, Storage, run_each};
+use std::io;
 
-pub(crate) fn run_set_storage_key(storage: &mut Storage, keys: &mut Keys) {
+pub(crate) fn run_set_storage_key(
+    rt: &impl Print,
+    storage: &mut Storage,
+    keys: &mut Keys,
+) -> io::Result<()> {
     run_each(
+        rt,
         storage,
         keys,
         Group::SetStorageKey,
         2,
         b"SSK   (*) R1 3F, swap word 0, old key 04, valid page, bit 20 zero\n\
           SSK   (*) R1 3F, swap word 0, old key 04, valid page, bit 20 one\n",
-    );
+    )
 }
 
 pub(crate) fn edge(number: usize) -> Edge {

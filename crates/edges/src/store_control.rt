@@ -1,9 +1,15 @@
 // STORE CONTROL.
 use crate::edge::Edge;
 use crate::run::{Group, Keys, Storage, run_each};
+use std::io;
 
-pub(crate) fn run_store_control(storage: &mut Storage, keys: &mut Keys) {
+pub(crate) fn run_store_control(
+    rt: &impl Print,
+    storage: &mut Storage,
+    keys: &mut Keys,
+) -> io::Result<()> {
     run_each(
+        rt,
         storage,
         keys,
         Group::StoreControl,
@@ -12,7 +18,7 @@ pub(crate) fn run_store_control(storage: &mut Storage, keys: &mut Keys) {
           STCTL (*) R1=R3=5: one register\n\
           STCTL (*) R1=1, R3=0: sixteen registers\n\
           STCTL operand 3FFFFC, two registers, 4 MiB: second word not in storage\n",
-    );
+    )
 }
 
 pub(crate) fn edge(number: usize) -> Edge {

@@ -3,9 +3,20 @@
 use crate::edge::{BC, EC, Edge};
 use crate::places::MICBLOK;
 use crate::run::{Group, Keys, Storage, run_each};
+use std::io;
 
-pub(crate) fn run_system_masks(storage: &mut Storage, keys: &mut Keys) {
+pub(crate) fn run_system_masks(
+    rt: &impl Print,
+    storage: &mut Storage,
+    keys: &mut Keys,
+) -> io::Result<()> {
+    run_set_edges(rt, storage, keys)?;
+    run_store_then_edges(rt, storage, keys)
+}
+
+fn run_set_edges(rt: &impl Print, storage: &mut Storage, keys: &mut Keys) -> io::Result<()> {
     run_each(
+        rt,
         storage,
         keys,
         Group::SetSystemMask,
@@ -25,8 +36,12 @@ pub(crate) fn run_system_masks(storage: &mut Storage, keys: &mut Keys) {
           SSM   (*) BC, pending, old 00, new 01, expanded installed, bit 6 zero\n\
           SSM   BC, pending, old 00, new 01, expanded not installed, bit 6 one\n\
           SSM   BC, pending, old 00, new 01, expanded not installed, bit 6 zero\n",
-    );
+    )
+}
+
+fn run_store_then_edges(rt: &impl Print, storage: &mut Storage, keys: &mut Keys) -> io::Result<()> {
     run_each(
+        rt,
         storage,
         keys,
         Group::StoreThenMask,
@@ -43,7 +58,7 @@ pub(crate) fn run_system_masks(storage: &mut Storage, keys: &mut Keys) {
           STOSM EC, old 07, OR 87, expanded installed, bit 6 zero\n\
           STOSM BC, pending, old 04, OR 03, expanded installed, bit 6 one\n\
           STOSM BC, pending, old 04, OR 03, expanded installed, bit 6 zero\n",
-    );
+    )
 }
 
 // EC, old 04, new 07, pending

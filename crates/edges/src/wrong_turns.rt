@@ -2,9 +2,15 @@
 use crate::edge::{BC, EC, Edge};
 use crate::places::{MICVPSW, VIRTUAL_PSW};
 use crate::run::{Group, Keys, Storage, run_each};
+use std::io;
 
-pub(crate) fn run_wrong_turns(storage: &mut Storage, keys: &mut Keys) {
+pub(crate) fn run_wrong_turns(
+    rt: &impl Print,
+    storage: &mut Storage,
+    keys: &mut Keys,
+) -> io::Result<()> {
     run_each(
+        rt,
         storage,
         keys,
         Group::WrongTurns,
@@ -28,7 +34,7 @@ pub(crate) fn run_wrong_turns(storage: &mut Storage, keys: &mut Keys) {
           STNSM operand is first byte of virtual PSW, new byte stays\n\
           STOSM operand is first byte of virtual PSW, new byte stays\n\
           SSM   BC, operand is second byte of virtual PSW, only byte 0 stored\n",
-    );
+    )
 }
 
 pub(crate) fn edge(number: usize) -> Edge {

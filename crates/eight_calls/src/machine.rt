@@ -40,9 +40,7 @@ fn initial_word(address: usize) -> u32 {
 }
 
 pub(crate) fn fill(storage: &mut Storage) {
-    let mut i = 0;
-    while i < STORAGE_BYTES {
+    for i in 0..STORAGE_BYTES {
         storage[i] = byte_of(initial_word(i - i % 4), i % 4);
-        i += 1;
     }
 }

@@ -8,6 +8,7 @@ use crate::own_buffers::try_own_buffers;
 use crate::refusals::try_refusals;
 use crate::run::{BUFFER_BYTES, Buffer, UNUSED, run_calls, start};
 use crate::show::print_buffer;
+use std::io;
 
 mod calls;
 mod machine;
@@ -18,18 +19,23 @@ mod show;
 mod text;
 mod words;
 
-fn run_all(storage: &mut Storage, keys: &mut Keys, buffer: &mut Buffer) {
+fn run_all(
+    rt: &impl Print,
+    storage: &mut Storage,
+    keys: &mut Keys,
+    buffer: &mut Buffer,
+) -> io::Result<()> {
     machine::fill(storage);
-    let held = start(buffer);
-    let last = run_calls(storage, keys, buffer, held);
-    try_refusals(buffer, last);
-    try_own_buffers(last);
-    print_buffer(buffer);
+    let held = start(rt, buffer)?;
+    let last = run_calls(rt, storage, keys, buffer, held)?;
+    try_refusals(rt, buffer, last)?;
+    try_own_buffers(rt, last)?;
+    print_buffer(rt, buffer)
 }
 
-fn main() {
+fn main(rt: HostRuntime) -> io::Result<()> {
     let mut storage = [0u8; STORAGE_BYTES];
     let mut keys = [0u8; KEY_COUNT];
     let mut buffer = [UNUSED; BUFFER_BYTES];
-    run_all(&mut storage, &mut keys, &mut buffer);
+    run_all(&rt, &mut storage, &mut keys, &mut buffer)
 }

@@ -3,6 +3,7 @@ use crate::calls::{FIRST_CALL, LAST_CALL, call, guest_number};
 use crate::machine::{Keys, Storage};
 use crate::show::{print_entry, print_outcome};
 use crate::text::{print, print_decimal};
+use std::io;
 use trail::Entry;
 
 // Room for five records, the trailer after them, and 24 bytes more.
@@ -20,40 +21,46 @@ struct Made {
     held: u32,
 }
 
-pub(crate) fn start(buffer: &mut [u8]) -> u32 {
+pub(crate) fn start(rt: &impl Print, buffer: &mut [u8]) -> io::Result<u32> {
     let written = trail::start(buffer);
-    print(b"start: ");
-    print_outcome(written, buffer);
-    written.held
+    print(rt, b"start: ")?;
+    print_outcome(rt, written, buffer)?;
+    Ok(written.held)
 }
 
 // The calls in order; the answer is what is written down of the last one.
 pub(crate) fn run_calls(
+    rt: &impl Print,
     storage: &mut Storage,
     keys: &mut Keys,
     buffer: &mut Buffer,
     held: u32,
-) -> Entry {
-    let mut number = FIRST_CALL;
-    let mut last = run(storage, keys, buffer, held, number);
-    while number < LAST_CALL {
-        number += 1;
-        last = run(storage, keys, buffer, last.held, number);
+) -> io::Result<Entry> {
+    let mut last = run(rt, storage, keys, buffer, held, FIRST_CALL)?;
+    for number in FIRST_CALL + 1..=LAST_CALL {
+        last = run(rt, storage, keys, buffer, last.held, number)?;
     }
-    last.entry
+    Ok(last.entry)
 }
 
-fn run(storage: &mut [u8], keys: &mut [u8], buffer: &mut [u8], held: u32, number: u32) -> Made {
+fn run(
+    rt: &impl Print,
+    storage: &mut [u8],
+    keys: &mut [u8],
+    buffer: &mut [u8],
+    held: u32,
+    number: u32,
+) -> io::Result<Made> {
     let call = call(number);
     let answer = assist::attempt(storage, keys, call.guest, call.first, call.installed);
     let entry = Entry::of(guest_number(number), call, answer);
     let written = trail::write(buffer, held, entry);
-    print(b"call ");
-    print_decimal(number as u64);
-    print_entry(entry);
-    print_outcome(written, buffer);
-    Made {
+    print(rt, b"call ")?;
+    print_decimal(rt, number as u64)?;
+    print_entry(rt, entry)?;
+    print_outcome(rt, written, buffer)?;
+    Ok(Made {
         entry,
         held: written.held,
-    }
+    })
 }

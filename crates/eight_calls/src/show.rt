@@ -1,5 +1,6 @@
 // Parts of the lines.
 use crate::text::{print, print_decimal, print_hex, print_words};
+use std::io;
 use trail::{Entry, Written};
 
 const ADDRESS_DIGITS: usize = 6;
@@ -12,64 +13,64 @@ pub(crate) const TRAILER_BYTES: usize = 16;
 
 const LINE_BYTES: usize = 32;
 
-pub(crate) fn print_entry(entry: Entry) {
+pub(crate) fn print_entry(rt: &impl Print, entry: Entry) -> io::Result<()> {
     let call = entry.call;
-    print(b", guest ");
-    print_decimal(entry.number as u64);
-    print(b", ");
-    print_hex(call.first as u64, HALFWORD_DIGITS);
-    print(b": ending ");
-    print_decimal(entry.ending as u64);
-    print(b", code ");
-    print_decimal(entry.code as u64);
-    print(b", count ");
-    print_decimal(entry.count as u64);
-    print(b", next ");
-    print_hex(entry.next as u64, ADDRESS_DIGITS);
-    print(b", translation ");
-    print_hex(entry.translation as u64, ADDRESS_DIGITS);
-    print(b"; ");
+    print(rt, b", guest ")?;
+    print_decimal(rt, entry.number as u64)?;
+    print(rt, b", ")?;
+    print_hex(rt, call.first as u64, HALFWORD_DIGITS)?;
+    print(rt, b": ending ")?;
+    print_decimal(rt, entry.ending as u64)?;
+    print(rt, b", code ")?;
+    print_decimal(rt, entry.code as u64)?;
+    print(rt, b", count ")?;
+    print_decimal(rt, entry.count as u64)?;
+    print(rt, b", next ")?;
+    print_hex(rt, entry.next as u64, ADDRESS_DIGITS)?;
+    print(rt, b", translation ")?;
+    print_hex(rt, entry.translation as u64, ADDRESS_DIGITS)?;
+    print(rt, b"; ")
 }
 
-pub(crate) fn print_written(written: Written) {
+pub(crate) fn print_written(rt: &impl Print, written: Written) -> io::Result<()> {
     let refusal = written.refusal;
-    print(b"refusal ");
-    print_decimal(refusal.number() as u64);
-    print(b", held ");
-    print_decimal(written.held as u64);
+    print(rt, b"refusal ")?;
+    print_decimal(rt, refusal.number() as u64)?;
+    print(rt, b", held ")?;
+    print_decimal(rt, written.held as u64)
 }
 
 // The trailer after so many records, if the buffer is long enough to hold it there.
-pub(crate) fn print_trailer(buffer: &[u8], held: u32) {
+pub(crate) fn print_trailer(rt: &impl Print, buffer: &[u8], held: u32) -> io::Result<()> {
     let from = RECORD_BYTES * held as usize;
     let to = from + TRAILER_BYTES;
-    print(b", trailer");
+    print(rt, b", trailer")?;
     if to <= buffer.len() {
-        print_words(&buffer[from..to]);
+        print_words(rt, &buffer[from..to])?;
     }
-    print(b"\n");
+    print(rt, b"\n")
 }
 
 // With the trailer that the number handed back points at.
-pub(crate) fn print_outcome(written: Written, buffer: &[u8]) {
-    print_written(written);
-    print_trailer(buffer, written.held);
+pub(crate) fn print_outcome(rt: &impl Print, written: Written, buffer: &[u8]) -> io::Result<()> {
+    print_written(rt, written)?;
+    print_trailer(rt, buffer, written.held)
 }
 
 // The last line has what is left.
-pub(crate) fn print_buffer(buffer: &[u8]) {
+pub(crate) fn print_buffer(rt: &impl Print, buffer: &[u8]) -> io::Result<()> {
     let mut from = 0;
     while buffer.len() - from > LINE_BYTES {
         let to = from + LINE_BYTES;
-        print_bytes(from, &buffer[from..to]);
+        print_bytes(rt, from, &buffer[from..to])?;
         from = to;
     }
-    print_bytes(from, &buffer[from..]);
+    print_bytes(rt, from, &buffer[from..])
 }
 
-fn print_bytes(from: usize, bytes: &[u8]) {
-    print_hex(from as u64, ADDRESS_DIGITS);
-    print(b":");
-    print_words(bytes);
-    print(b"\n");
+fn print_bytes(rt: &impl Print, from: usize, bytes: &[u8]) -> io::Result<()> {
+    print_hex(rt, from as u64, ADDRESS_DIGITS)?;
+    print(rt, b":")?;
+    print_words(rt, bytes)?;
+    print(rt, b"\n")
 }

@@ -6,10 +6,8 @@ pub(crate) fn clear(bytes: &mut [u8], count: u32) -> bool {
     if n > bytes.len() {
         return false;
     }
-    let mut i = 0;
-    while i < n {
+    for i in 0..n {
         bytes[i] = 0;
-        i += 1;
     }
     true
 }

@@ -2,6 +2,7 @@
 use crate::report;
 use crate::state::{State, Step, Trouble};
 use rules::Guest;
+use std::io;
 
 // The guest's record: PSW bits 0-31, PSW bits 32-63, general registers 0 to 15, control registers 0, 1 and 6.
 pub(crate) fn new_record(record: &mut [u32; 21], words: &[u32; 21], state: State) -> Step {
@@ -13,35 +14,37 @@ pub(crate) fn new_record(record: &mut [u32; 21], words: &[u32; 21], state: State
 
 // One attempt: the first halfword, whether the expanded assist is installed, and the checksum.
 pub(crate) fn call(
+    rt: &impl Print,
     storage: &mut [u8],
     keys: &mut [u8],
     record: &[u32; 21],
     numbers: &[u32; 21],
     state: State,
-) -> Step {
+) -> io::Result<Step> {
     let installed = numbers[1];
     let checked = called(installed, numbers[2], state);
     let Step::Next(next) = checked else {
-        return checked;
+        return Ok(checked);
     };
     let size = state.size as usize;
     let count = state.keys as usize;
     if size > storage.len() {
-        return Step::Stopped(Trouble::Room);
+        return Ok(Step::Stopped(Trouble::Room));
     }
     if count > keys.len() {
-        return Step::Stopped(Trouble::Room);
+        return Ok(Step::Stopped(Trouble::Room));
     }
     let first = (numbers[0] % 65536) as u16;
     attempt(
+        rt,
         &mut storage[0..size],
         &mut keys[0..count],
         guest_of(record),
         first,
         installed == 1,
         next.calls,
-    );
-    Step::Next(next)
+    )?;
+    Ok(Step::Next(next))
 }
 
 // One call on, where nothing speaks against it: the checksum begins anew.
@@ -73,26 +76,25 @@ pub(crate) fn end(calls: u32, sum: u32, state: State) -> Step {
 }
 
 fn attempt(
+    rt: &impl Print,
     storage: &mut [u8],
     keys: &mut [u8],
     guest: Guest,
     first: u16,
     installed: bool,
     number: u32,
-) {
+) -> io::Result<()> {
     let answer = assist::attempt(storage, keys, guest, first, installed);
     let over_storage = checksum::over(checksum::START, storage);
     let over_keys = checksum::over(over_storage, keys);
     let sum = checksum::finish(report::over_record(over_keys, answer.guest));
-    report::answer(number, answer, sum);
+    report::answer(rt, number, answer, sum)
 }
 
 fn guest_of(record: &[u32; 21]) -> Guest {
     let mut general = [0u32; 16];
-    let mut i = 0;
-    while i < 16 {
+    for i in 0..16 {
         general[i] = record[i + 2];
-        i += 1;
     }
     Guest {
         psw: joined(record[0], record[1]),

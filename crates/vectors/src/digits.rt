@@ -19,14 +19,12 @@ pub(crate) fn field(line: &[u8], at: usize, digits: usize) -> Number {
         return Number::Bad;
     }
     let mut value = 0;
-    let mut i = 0;
-    while i < digits {
+    for i in 0..digits {
         let next = digit(wide(line[at + 1 + i]));
         if next == 16 {
             return Number::Bad;
         }
         value = value % 268435456 * 16 + next;
-        i += 1;
     }
     Number::Value(value)
 }

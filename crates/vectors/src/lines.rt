@@ -4,15 +4,19 @@ ghost use Rattle.std.specs.Prelude.{◌≤◌};
 use crate::digits::{Number, field};
 use crate::state::{State, Step, Trouble};
 use crate::{bytes, calls, report};
-use libc::STDIN_FILENO;
+use std::io;
+use std::io::{ErrorKind, Read};
 
 // What follows the first character of the longest line.
 const LONGEST: usize = 190;
 
 // Fills the line from the input; false where the input ends before.
-pub(crate) fn whole(line: &mut [u8]) -> bool {
-    let n = io::read_full(STDIN_FILENO, line);
-    n == line.len()
+pub(crate) fn whole(input: &mut impl Read, line: &mut [u8]) -> io::Result<bool> {
+    match input.read_exact(line) {
+        Ok(()) => Ok(true),
+        Err(e) if e.kind() == ErrorKind::UnexpectedEof => Ok(false),
+        Err(e) => Err(e),
+    }
 }
 
 // How many characters follow the first; more than any line has where there is no such kind.
@@ -76,85 +80,102 @@ fn at_most(n: usize, most: usize) -> usize
 fn fields(line: &[u8], kind: u8, numbers: &mut [u32; 21]) -> bool {
     let count = fields_of(kind);
     let mut at = 0;
-    let mut i = 0;
-    while i < count {
+    for i in 0..count {
         let digits = digits_of(kind, i);
         let Number::Value(number) = field(line, at, digits) else {
             return false;
         };
         numbers[i] = number;
         at += digits + 1;
-        i += 1;
     }
     let n = line.len();
     n > 0 && line[n - 1] == b'\n'
 }
 
 // Reads a line: its numbers, and into the state its kind and the checksum after it.
-fn read(numbers: &mut [u32; 21], state: State) -> Step {
+fn read(
+    rt: &impl Print,
+    input: &mut impl Read,
+    numbers: &mut [u32; 21],
+    state: State,
+) -> io::Result<Step> {
     let mut first = [0u8; 1];
     let mut longest = [0u8; LONGEST];
-    if !whole(&mut first) {
-        return Step::Stopped(Trouble::Ends);
+    if !whole(input, &mut first)? {
+        return Ok(Step::Stopped(Trouble::Ends));
     }
     let mut next = state;
     next.lines = std::num::wrapping_add_u64(state.lines, 1);
     next.kind = first[0];
     next.sum = checksum::over(state.sum, &first);
-    read_kind(&mut longest, numbers, next)
+    read_kind(rt, input, &mut longest, numbers, next)
 }
 
-fn read_kind(longest: &mut [u8], numbers: &mut [u32; 21], state: State) -> Step {
+fn read_kind(
+    rt: &impl Print,
+    input: &mut impl Read,
+    longest: &mut [u8],
+    numbers: &mut [u32; 21],
+    state: State,
+) -> io::Result<Step> {
     let length = length_of(state.kind);
     if length > longest.len() {
-        return Step::Stopped(Trouble::Kind);
+        return Ok(Step::Stopped(Trouble::Kind));
     }
-    read_rest(&mut longest[0..length], numbers, state)
+    read_rest(rt, input, &mut longest[0..length], numbers, state)
 }
 
 // What follows the first character. A comment is printed as it stands.
-fn read_rest(line: &mut [u8], numbers: &mut [u32; 21], state: State) -> Step {
+fn read_rest(
+    rt: &impl Print,
+    input: &mut impl Read,
+    line: &mut [u8],
+    numbers: &mut [u32; 21],
+    state: State,
+) -> io::Result<Step> {
     let kind = state.kind;
-    if !whole(line) {
-        return Step::Stopped(Trouble::Ends);
+    if !whole(input, line)? {
+        return Ok(Step::Stopped(Trouble::Ends));
     }
     if !fields(line, kind, numbers) {
-        return Step::Stopped(Trouble::Form);
+        return Ok(Step::Stopped(Trouble::Form));
     }
     if kind == b'#' {
-        report::print(b"#");
-        report::print(line);
+        report::print(rt, b"#")?;
+        report::print(rt, line)?;
     }
     let mut next = state;
     let end = at_most(covered(kind), line.len());
     next.sum = checksum::over(state.sum, &line[0..end]);
-    Step::Next(next)
+    Ok(Step::Next(next))
 }
 
 // One line of the input, and what it does.
 pub(crate) fn step(
+    rt: &impl Print,
+    input: &mut impl Read,
     storage: &mut [u8],
     keys: &mut [u8],
     record: &mut [u32; 21],
     state: State,
-) -> Step {
+) -> io::Result<Step> {
     let mut numbers = [0u32; 21];
-    let line = read(&mut numbers, state);
+    let line = read(rt, input, &mut numbers, state)?;
     let Step::Next(next) = line else {
-        return line;
+        return Ok(line);
     };
     let a = numbers[0];
     let b = numbers[1];
     let kind = next.kind;
-    match kind {
+    Ok(match kind {
         b's' => new_storage(bytes::clear(storage, a) & bytes::clear(keys, b), a, b, next),
         b'w' | b'b' => stored(bytes::put(storage, next.size, a, b, bytes_of(kind)), next),
         b'q' | b'k' => stored(bytes::put(keys, next.keys, a, b, bytes_of(kind)), next),
         b'r' => calls::new_record(record, &numbers, next),
-        b'a' => calls::call(storage, keys, record, &numbers, next),
+        b'a' => calls::call(rt, storage, keys, record, &numbers, next)?,
         b'e' => calls::end(a, b, next),
         _ => Step::Next(next),
-    }
+    })
 }
 
 // A new storage, all zero, if there is room for it.

@@ -3,6 +3,10 @@
 #![tactic(auto)]
 
 use crate::state::{State, Step, Trouble};
+use std::env::FillError;
+use std::io;
+use std::io::Read;
+use std::rt::Env;
 
 mod bytes;
 mod calls;
@@ -20,70 +24,87 @@ const LARGE_STORAGE_BYTES: usize = 16779264;
 const KEY_COUNT: usize = 8448;
 
 // After the end nothing follows.
-fn finish(state: State) {
+fn finish(rt: &impl Print, input: &mut impl Read, state: State) -> io::Result<()> {
     let mut more = [0u8; 1];
-    if lines::whole(&mut more) {
-        report::stopped(state.lines, 2, Trouble::After);
+    if lines::whole(input, &mut more)? {
+        report::stopped(rt, state.lines, 2, Trouble::After)
     } else {
-        report::finished(state.calls);
+        report::finished(rt, state.calls)
     }
 }
 
 // The lines one after the other. A proved loop has to end, and nothing says that the input does, so the turns are
-// counted down from a number that no run uses up.
-fn run(storage: &mut [u8], keys: &mut [u8]) {
+// counted up to a number that no run reaches.
+fn run(rt: &(impl Input + Print), storage: &mut [u8], keys: &mut [u8]) -> io::Result<()> {
+    let mut input = rt.reader();
     let mut record = [0u32; 21];
     let mut state = State::new();
-    let mut turns = u64::MAX;
-    while turns > 0 {
-        turns -= 1;
-        match lines::step(storage, keys, &mut record, state) {
+    for _ in 0..u64::MAX {
+        match lines::step(rt, &mut input, storage, keys, &mut record, state)? {
             Step::Next(next) => {
                 state = next;
             }
             Step::Finished => {
-                finish(state);
-                return;
+                return finish(rt, &mut input, state);
             }
             Step::Stopped(trouble) => {
-                report::stopped(state.lines, 1, trouble);
-                return;
+                return report::stopped(rt, state.lines, 1, trouble);
             }
         }
     }
+    Ok(())
 }
 
 // An array is lent as an array first: its length is then known by type, and not computed.
-fn run_usual(storage: &mut [u8; STORAGE_BYTES], keys: &mut [u8; KEY_COUNT]) {
-    run(storage, keys);
+fn run_usual(
+    rt: &(impl Input + Print),
+    storage: &mut [u8; STORAGE_BYTES],
+    keys: &mut [u8; KEY_COUNT],
+) -> io::Result<()> {
+    run(rt, storage, keys)
 }
 
-fn run_large(storage: &mut [u8; LARGE_STORAGE_BYTES], keys: &mut [u8; KEY_COUNT]) {
-    run(storage, keys);
+fn run_large(
+    rt: &(impl Input + Print),
+    storage: &mut [u8; LARGE_STORAGE_BYTES],
+    keys: &mut [u8; KEY_COUNT],
+) -> io::Result<()> {
+    run(rt, storage, keys)
 }
 
-fn usual_storage() {
+fn usual_storage(rt: &(impl Input + Print)) -> io::Result<()> {
     let mut storage = [0u8; STORAGE_BYTES];
     let mut keys = [0u8; KEY_COUNT];
-    run_usual(&mut storage, &mut keys);
+    run_usual(rt, &mut storage, &mut keys)
 }
 
 // It calls itself so that the compiler can't put its body, with 16 MiB of stack, into `main`: each run would then need
 // that stack. `more` is 0, since no run has 2^32 arguments, and the compiler doesn't know that.
-fn large_storage(more: usize) {
+fn large_storage(rt: &(impl Input + Print), more: usize) -> io::Result<()> {
     let mut storage = [0u8; LARGE_STORAGE_BYTES];
     let mut keys = [0u8; KEY_COUNT];
-    run_large(&mut storage, &mut keys);
+    run_large(rt, &mut storage, &mut keys)?;
     if more > 0 {
-        large_storage(more - 1);
+        large_storage(rt, more - 1)?;
     }
+    Ok(())
 }
 
-fn main() {
-    let arguments = os::arg_count();
+// With the program's name. An argument can be any bytes, and none of them is needed.
+fn argument_count(rt: &impl Env) -> usize {
+    for i in 0..usize::MAX {
+        if let Err(FillError::NotPresent) = rt.arg(i, &mut []) {
+            return i;
+        }
+    }
+    usize::MAX
+}
+
+fn main(rt: HostRuntime) -> io::Result<()> {
+    let arguments = argument_count(&rt);
     if arguments > 1 {
-        large_storage(arguments / 0x100000000);
+        large_storage(&rt, arguments / 0x100000000)
     } else {
-        usual_storage();
+        usual_storage(&rt)
     }
 }

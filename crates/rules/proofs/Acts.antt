@@ -1,6 +1,31 @@
 -- What a guest whose part is p does, beside one whose part is q, to each key by itself: by an entry, by a write, and by
 -- a whole attempt.
-use Rattle.std.proofs.Common.{◌≡◌, ℕ, ◌/◌, Bool, true, false, cond, ◌&&◌, ◌||◌, eqb, ltb, List, [], ◌∷◌, map, length, get_or, sym, refl, ap, ◌∙◌, subst, length-set, eqb-true}
+use Rattle.std.proofs.Common.{
+  ◌≡◌,
+  ℕ,
+  ◌/◌,
+  Bool,
+  true,
+  false,
+  cond,
+  ◌&&◌,
+  ◌||◌,
+  eqb,
+  ltb,
+  List,
+  [],
+  ◌∷◌,
+  map,
+  length,
+  get_or,
+  sym,
+  refl,
+  ap,
+  ◌∙◌,
+  subst,
+  length-set,
+  eqb-true,
+}
 use mathlib.Core.Bool.{or_assoc, or-false}
 use Rattle.rules.specs.Machine.{Machine, addresses}
 use Rattle.rules.specs.References.{Reference, fetched, consulted, wrote, key_set}
@@ -147,7 +172,8 @@ module _ (p q : Part) (wp : WholeBlocks p) (wq : WholeBlocks q) (size k : ℕ) w
     keeps = λ g x y l. subst (SameButReference x) (sym (outside g y)) l;
     both = both;
     reference_bit = λ l g x.
-        ap is_referred (outside g x) ∙ sym (or-false (is_referred x)) ∙ ap (λ z. is_referred x || z) (sym (untouched g));
+        ap is_referred (outside g x) ∙ sym (or-false (is_referred x)) ∙ ap (λ z. is_referred x || z) (sym
+        (untouched g));
   }
 
   clear_blocks : (at : List ℕ) → All (λ a. q.bytes a → ⊥) at → All (λ a. q.keys (a / 2048) → ⊥) at
@@ -198,7 +224,8 @@ module _ (p q : Part) (wp : WholeBlocks p) (wq : WholeBlocks q) (size k : ℕ) w
   acts_writes [] h = acts_none
   acts_writes (w ∷ ws) h =
       let r = entry w in
-      acts_then (touches k r) (touched k (map entry ws)) (λ x. on_key size k r (on_put size k w x)) (on_writes size k ws)
+      acts_then (touches k r) (touched k (map entry ws)) (λ x. on_key size k r (on_put size k w x))
+      (on_writes size k ws)
       (acts_then false (touches k r) (on_put size k w) (on_key size k r) (acts_put w h.0) (acts_entry r h.0))
       (acts_writes ws h.1)
 

@@ -1,5 +1,23 @@
 -- What a reading program comes to that goes on with another, and one whose endings are turned into others.
-use Rattle.std.proofs.Common.{◌≡◌, ℕ, suc, ◌+◌, Bool, true, false, ltb, ◌∷◌, length, get_or, sym, refl, ap, ◌∙◌, suc-add, zero-add}
+use Rattle.std.proofs.Common.{
+  ◌≡◌,
+  ℕ,
+  suc,
+  ◌+◌,
+  Bool,
+  true,
+  false,
+  ltb,
+  ◌∷◌,
+  length,
+  get_or,
+  sym,
+  refl,
+  ap,
+  ◌∙◌,
+  suc-add,
+  zero-add,
+}
 use Rattle.rules.specs.Endings.{Ending}
 use Rattle.rules.specs.Machine.{Machine, has, value}
 use Rattle.rules.specs.References.{Reference, seen_as, fetched, consulted}

@@ -24,7 +24,8 @@ use Rattle.rules.specs.Attempt.{admitted, instruction}
 
 -- what every instruction reads by
 unfoldable pub walking : Unit {0}
-unfolding marked ◌>>=◌ fetch_bytes consult_key stop_if ending_as format_of segment_verdict segment_walk page_verdict page_walk
+unfolding marked ◌>>=◌ fetch_bytes consult_key stop_if ending_as format_of segment_verdict segment_walk page_verdict
+    page_walk
     table_walk translate real_of key_test access
 walking = tt
 
@@ -46,7 +47,8 @@ unfolding walking segment_table segment_of swap_word_at page_of find_page
 paging = tt
 
 unfoldable pub keying : Unit {0}
-unfolding fetching paging store_swap_word set_block_key set_storage_key insert_key insert_block_key insert_storage_key store_reset
+unfolding fetching paging store_swap_word set_block_key set_storage_key insert_key insert_block_key
+    insert_storage_key store_reset
     reset_block_key reset_reference_bit
 keying = tt
 

@@ -9,7 +9,24 @@ pub mod ConditionCode
 pub mod ResetReferenceBit
 pub mod LoadRealAddress
 pub mod Attempt
-use Rattle.std.proofs.Common.{◌≡◌, ℕ, ◌+◌, ◌^◌, ◌<◌, ◌≤◌, Bool, true, false, cond, ◌&&◌, eqb, length, refl, true≢false, arith}
+use Rattle.std.proofs.Common.{
+  ◌≡◌,
+  ℕ,
+  ◌+◌,
+  ◌^◌,
+  ◌<◌,
+  ◌≤◌,
+  Bool,
+  true,
+  false,
+  cond,
+  ◌&&◌,
+  eqb,
+  length,
+  refl,
+  true≢false,
+  arith,
+}
 use Rattle.operations.specs.Operations.{length_of}
 use Rattle.rules.specs.Bits.{bit}
 use Rattle.rules.specs.Guest.{Guest, advance}

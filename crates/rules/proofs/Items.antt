@@ -1,5 +1,25 @@
 -- An item that does not go round the top of storage is there exactly if its last byte is.
-use Rattle.std.proofs.Common.{◌≡◌, ℕ, zero, suc, ◌+◌, ◌^◌, ◌<◌, Bool, true, false, ◌&&◌, ltb, sym, refl, ap, ◌∙◌, arith, ltb-true, lt-ltb}
+use Rattle.std.proofs.Common.{
+  ◌≡◌,
+  ℕ,
+  zero,
+  suc,
+  ◌+◌,
+  ◌^◌,
+  ◌<◌,
+  Bool,
+  true,
+  false,
+  ◌&&◌,
+  ltb,
+  sym,
+  refl,
+  ap,
+  ◌∙◌,
+  arith,
+  ltb-true,
+  lt-ltb,
+}
 use Rattle.rules.specs.Machine.{◌⊕◌, has}
 
 -- before a test that it follows from, a test adds nothing

@@ -1,5 +1,23 @@
 -- Locality: a reading program sees nothing but what its references name.
-use Rattle.std.proofs.Common.{◌≡◌, ℕ, ◌+◌, ◌*◌, Bool, true, false, ltb, List, [], ◌∷◌, length, get_or, sym, refl, ap, ◌∙◌}
+use Rattle.std.proofs.Common.{
+  ◌≡◌,
+  ℕ,
+  ◌+◌,
+  ◌*◌,
+  Bool,
+  true,
+  false,
+  ltb,
+  List,
+  [],
+  ◌∷◌,
+  length,
+  get_or,
+  sym,
+  refl,
+  ap,
+  ◌∙◌,
+}
 use Rattle.rules.specs.Endings.{Ending}
 use Rattle.rules.specs.Machine.{Machine, addresses, value_at, has, value}
 use Rattle.rules.specs.References.{seen_as, Reference, fetched, consulted, wrote, key_set, bytes_of}
@@ -22,7 +40,8 @@ pub record Agree (m m' : Machine) (r : Reference) : Type 0 where
   pub bytes : All (λ a. get_or m'.storage a 0 ≡ get_or m.storage a 0) (bytes_of r)
   pub keys : SameKey m.keys m'.keys r
 
-value_same : (s s' at : List ℕ) (v : ℕ) → All (λ a. get_or s' a 0 ≡ get_or s a 0) at → value_at s' at v ≡ value_at s at v
+value_same : (s s' at : List ℕ) (v : ℕ) → All
+    (λ a. get_or s' a 0 ≡ get_or s a 0) at → value_at s' at v ≡ value_at s at v
 value_same s s' [] v h = refl
 value_same s s' (a ∷ at) v h =
     ap (λ b. value_at s' at (v * 256 + b)) h.0 ∙ value_same s s' at (v * 256 + get_or s a 0) h.1

@@ -5,7 +5,34 @@ pub mod StoreControl
 pub mod StorageKeys
 pub mod LoadRealAddress
 pub mod Instruction
-use Rattle.std.proofs.Common.{◌≡◌, ℕ, suc, ◌+◌, ◌*◌, ◌/◌, ◌%◌, ◌^◌, ◌<◌, ◌≤◌, Bool, true, false, not, ◌||◌, eqb, ltb, List, [], ◌∷◌, refl, arith, ltb-false, ltb-true, lt-ltb, eqb-true}
+use Rattle.std.proofs.Common.{
+  ◌≡◌,
+  ℕ,
+  suc,
+  ◌+◌,
+  ◌*◌,
+  ◌/◌,
+  ◌%◌,
+  ◌^◌,
+  ◌<◌,
+  ◌≤◌,
+  Bool,
+  true,
+  false,
+  not,
+  ◌||◌,
+  eqb,
+  ltb,
+  List,
+  [],
+  ◌∷◌,
+  refl,
+  arith,
+  ltb-false,
+  ltb-true,
+  lt-ltb,
+  eqb-true,
+}
 use borrow.Author.Tests.{not-false}
 use Rattle.operations.proofs.Junctions.{both_true, neither_true}
 use Rattle.rules.specs.Machine.{addresses, present, has}

@@ -1,6 +1,25 @@
 -- What a reading program records: its entries are fetches and keys consulted, so of the keys it changes reference bits
 -- alone, those of the blocks that its entries touch.
-use Rattle.std.proofs.Common.{◌≡◌, ℕ, ◌<◌, Bool, true, false, ◌||◌, ltb, List, [], ◌∷◌, length, get_or, sym, ap, ◌∙◌, subst, lt-ltb}
+use Rattle.std.proofs.Common.{
+  ◌≡◌,
+  ℕ,
+  ◌<◌,
+  Bool,
+  true,
+  false,
+  ◌||◌,
+  ltb,
+  List,
+  [],
+  ◌∷◌,
+  length,
+  get_or,
+  sym,
+  ap,
+  ◌∙◌,
+  subst,
+  lt-ltb,
+}
 use mathlib.Core.Bool.{or_assoc, or-false}
 use Rattle.rules.specs.Endings.{Ending}
 use Rattle.rules.specs.Machine.{Machine, addresses, has, value}

@@ -1,5 +1,34 @@
 -- What recording does to each key by itself.
-use Rattle.std.proofs.Common.{◌≡◌, ℕ, ◌+◌, ◌/◌, ◌%◌, Bool, true, false, cond, ◌&&◌, ◌||◌, eqb, ltb, List, [], ◌∷◌, ◌++◌, length, get_or, set, sym, refl, ap, ◌∙◌, arith, length-set, eq-eqb, eqb-true}
+use Rattle.std.proofs.Common.{
+  ◌≡◌,
+  ℕ,
+  ◌+◌,
+  ◌/◌,
+  ◌%◌,
+  Bool,
+  true,
+  false,
+  cond,
+  ◌&&◌,
+  ◌||◌,
+  eqb,
+  ltb,
+  List,
+  [],
+  ◌∷◌,
+  ◌++◌,
+  length,
+  get_or,
+  set,
+  sym,
+  refl,
+  ap,
+  ◌∙◌,
+  arith,
+  length-set,
+  eq-eqb,
+  eqb-true,
+}
 use mathlib.Core.Bool.{or_assoc, or-false, or-true}
 use Rattle.rules.specs.Machine.{Machine, addresses}
 use Rattle.rules.specs.References.{
@@ -79,7 +108,8 @@ on_key size k (consulted u b) x = x
 on_key size k (wrote a n) x = on changed size k (addresses a n) x
 on_key size k (key_set b) x = x
 
-pub recorded_at : (s : List ℕ) (r : Reference) (k : ℕ) → get_or (recorded s r) k 0 ≡ on_key (length s) k r (get_or s k 0)
+pub recorded_at : (s : List ℕ) (r : Reference) (k : ℕ) → get_or (recorded s r) k 0 ≡ on_key (length s) k r
+    (get_or s k 0)
 recorded_at s (fetched a n) k = marked_at referred s (addresses a n) k
 recorded_at s (consulted u b) k = refl
 recorded_at s (wrote a n) k = marked_at changed s (addresses a n) k

@@ -1,5 +1,28 @@
 -- The numbers of an attempt's answer are small: demand 1 lists every number, code and step.
-use Rattle.std.proofs.Common.{◌≡◌, ℕ, ◌^◌, ◌<◌, Bool, true, false, cond, ◌&&◌, ◌||◌, eqb, ltb, List, [], ◌∷◌, sym, refl, ⊎_elim, true≢false, arith, ltb-true, eqb-true}
+use Rattle.std.proofs.Common.{
+  ◌≡◌,
+  ℕ,
+  ◌^◌,
+  ◌<◌,
+  Bool,
+  true,
+  false,
+  cond,
+  ◌&&◌,
+  ◌||◌,
+  eqb,
+  ltb,
+  List,
+  [],
+  ◌∷◌,
+  sym,
+  refl,
+  ⊎_elim,
+  true≢false,
+  arith,
+  ltb-true,
+  eqb-true,
+}
 use Rattle.operations.proofs.Junctions.{both_true, either_true}
 use Rattle.rules.specs.Endings.{Ending, numbers}
 use Rattle.rules.specs.Theorems.Answers.{Line, table, among, listed, Possible}

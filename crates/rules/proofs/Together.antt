@@ -1,6 +1,25 @@
 -- Three machines of demand 3: one list's alone, the other's alone, and both lists'. What holds of them together, and
 -- that it still holds when one guest has put bytes, or done something to the keys.
-use Rattle.std.proofs.Common.{◌≡◌, ℕ, Bool, true, false, ◌||◌, ltb, List, [], ◌∷◌, map, length, get_or, sym, refl, ap, ◌∙◌, subst}
+use Rattle.std.proofs.Common.{
+  ◌≡◌,
+  ℕ,
+  Bool,
+  true,
+  false,
+  ◌||◌,
+  ltb,
+  List,
+  [],
+  ◌∷◌,
+  map,
+  length,
+  get_or,
+  sym,
+  refl,
+  ap,
+  ◌∙◌,
+  subst,
+}
 use mathlib.Core.Bool.{or_comm}
 use Rattle.rules.specs.Machine.{Machine, addresses}
 use Rattle.rules.specs.References.{Reference}

@@ -1,7 +1,26 @@
 -- Storage and keys, as the caller lends them; addresses; what it means that an item is in storage; bytes stored.
 -- A block, document 01's "key block", is 2,048 bytes of storage, which share a key.
 -- Document 01, "What is modelled" and "Addresses and translation".
-use Rattle.std.specs.Prelude.{ℕ, zero, suc, ◌+◌, ◌*◌, ◌/◌, ◌%◌, ◌^◌, Bool, true, ◌&&◌, List, [], ◌∷◌, length, nat_lt, slice_index, slice_set}
+use Rattle.std.specs.Prelude.{
+  ℕ,
+  zero,
+  suc,
+  ◌+◌,
+  ◌*◌,
+  ◌/◌,
+  ◌%◌,
+  ◌^◌,
+  Bool,
+  true,
+  ◌&&◌,
+  List,
+  [],
+  ◌∷◌,
+  length,
+  nat_lt,
+  slice_index,
+  slice_set,
+}
 
 -- One byte an element, and one key byte for each block. A key: bits 0-3 access, 4 fetch protection,
 -- 5 reference, 6 change; bit 7 is ignored and left as found.

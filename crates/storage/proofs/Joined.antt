@@ -1,5 +1,27 @@
 -- The number in an item is that of its left part and, behind it, that of its right part.
-use Rattle.std.proofs.Common.{◌≡◌, ℕ, ◌+◌, ◌*◌, ◌<◌, Bool, true, false, cond, ◌&&◌, ltb, List, [], ◌∷◌, ◌++◌, length, get_or, refl, ap, ◌∙◌, arith}
+use Rattle.std.proofs.Common.{
+  ◌≡◌,
+  ℕ,
+  ◌+◌,
+  ◌*◌,
+  ◌<◌,
+  Bool,
+  true,
+  false,
+  cond,
+  ◌&&◌,
+  ltb,
+  List,
+  [],
+  ◌∷◌,
+  ◌++◌,
+  length,
+  get_or,
+  refl,
+  ap,
+  ◌∙◌,
+  arith,
+}
 use mathlib.Core.Option.{Option, some, none}
 use Rattle.rules.specs.Machine.{◌⊕◌, addresses, present, value_at}
 use Rattle.storage.specs.Items.{Item, Of, held, item_at}

@@ -1,5 +1,32 @@
 -- An access to an item: recorded once where its bytes are all in one block, else byte by byte.
-use Rattle.std.proofs.Common.{◌≡◌, ℕ, zero, suc, ◌+◌, ◌/◌, ◌%◌, ◌<◌, ◌≤◌, Bool, true, false, ◌||◌, ltb, List, [], ◌∷◌, get_or, set, sym, refl, ap, ◌∙◌, true≢false, arith, ltb-false}
+use Rattle.std.proofs.Common.{
+  ◌≡◌,
+  ℕ,
+  zero,
+  suc,
+  ◌+◌,
+  ◌/◌,
+  ◌%◌,
+  ◌<◌,
+  ◌≤◌,
+  Bool,
+  true,
+  false,
+  ◌||◌,
+  ltb,
+  List,
+  [],
+  ◌∷◌,
+  get_or,
+  set,
+  sym,
+  refl,
+  ap,
+  ◌∙◌,
+  true≢false,
+  arith,
+  ltb-false,
+}
 use Rattle.rules.specs.Machine.{◌⊕◌, addresses}
 use Rattle.rules.specs.Recording.{marked, referred, changed}
 use Rattle.rules.specs.Theorems.Isolation.{All}

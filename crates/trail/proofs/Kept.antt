@@ -40,7 +40,8 @@ pub record After (original records : List ℕ) (n k : ℕ) (es : List Entry) : T
   pub went : List Entry
   pub is : went_in (trail_of original records n k) es ≡ went
   pub trail : write_all (trail_of original records n k) es
-      ≡ trail_of original (records ++ records_from n went) (n + length went) (min (k + (length es - length went)) largest)
+      ≡ trail_of original (records ++ records_from n went) (n + length went) (min (k +
+      (length es - length went)) largest)
   pub few : length went ≤ length es
   pub all : went ≡ take (capacity (length original) - n) es
   pub sound : Sound original (records ++ records_from n went) (n + length went)

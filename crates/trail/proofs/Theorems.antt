@@ -50,7 +50,8 @@ module _ (b : List ℕ) (es : List Entry) (h : trailer_size ≤ length b) where
       let w = all.went in
       let n = zero-add (length w) in
       let k = ap (λ x. min x largest) (zero-add (length es - length w)) in
-      let trail = ap (λ t. write_all t es) (started b h) ∙ all.trail ∙ (λ i. trail_of b (records_from 0 w) (n i) (k i)) in
+      let trail = ap (λ t. write_all t es) (started b h) ∙ all.trail ∙ (λ i. trail_of b (records_from 0 w) (n i)
+      (k i)) in
       let sound = subst (λ x. x) (λ i. Sound b (records_from 0 w) (n i) (k i)) all.sound in
       let earliest = all.all ∙ ap (λ m. take m es) (sub-zero (capacity (length b))) in
       subst Told (sym went) (record { is = trail; sound = sound; few = all.few; earliest = earliest })

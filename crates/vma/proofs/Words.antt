@@ -39,7 +39,8 @@ last_three l h =
     ap (λ (x : List ℕ). take 16 l ++ x) (sym all) ∙ take-append-drop 16 l
 
 -- the words of a record, taken from them
-pub same_words : (w : List ℕ) → length w ≡ 21 → get_or w 0 0 < 2 ^ 32 → get_or w 1 0 < 2 ^ 32 → words_of (guest_of w) ≡ w
+pub same_words : (w : List ℕ) → length w ≡ 21 → get_or w 0 0 < 2 ^ 32 → get_or w 1 0 < 2 ^ 32 → words_of
+    (guest_of w) ≡ w
 same_words [] h a b = absurd (omega arith)
 same_words (x ∷ []) h a b = absurd (omega arith)
 same_words (x ∷ y ∷ w) h a b =

@@ -1,5 +1,5 @@
-// The library that C programs link: the three functions of the crate vma, under their names in C. include/vma.h declares
-// them. Each promises what the function that it calls promises.
+// The library that C programs link: the three functions of the crate vma, under their names in C. include/vma.h
+// declares them. Each promises what the function that it calls promises.
 #![tactic(auto)]
 
 ghost use Rattle.std.specs.Prelude.{◌≡◌, length};

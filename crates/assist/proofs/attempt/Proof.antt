@@ -23,15 +23,16 @@ program-requires c κs =
 returns : tie.Need-returns
 unfolding attempted
 returns c =
+    let start = c.before.before.before.before.before.before.before.before.before.before.before.before in
     let m = machine c.args.storage.now c.args.keys.now in
     let concluded = c.program-concluded.result in
     let length = ap (λ o. o.length) c.operation_of-operation.ensures
     ∙ ap length_of c.operation_byte.ensures in
-    let e = ap (shown (call c.before.before.before.before.before.before.before.before.before.before.before.before)) c.program-concluded.ensures ∙ attempts m (call c.before.before.before.before.before.before.before.before.before.before.before.before) in
+    let e = ap (shown (call start)) c.program-concluded.ensures ∙ attempts m (call start) in
     let answer =
-    c.answer_of.ensures ∙ ap (answer_of concluded (call c.before.before.before.before.before.before.before.before.before.before.before.before)) length ∙ ap (λ f. f.answer) e in
+    c.answer_of.ensures ∙ ap (answer_of concluded (call start)) length ∙ ap (λ f. f.answer) e in
     let count = ap (λ x. x.count) answer in
-    let counted = count_bounded m (call c.before.before.before.before.before.before.before.before.before.before.before.before) in
+    let counted = count_bounded m (call start) in
     let bound = subst (λ n. n ≤ 85) (sym count) counted.at_most in
     let storage = ap (λ f. f.after.storage) e in
     let keys = ap (λ f. f.after.keys) e in

@@ -42,17 +42,19 @@ stage c = instruction c.args.call
 returns : tie.Need-returns-then-operation-eq128
 unfolding instruction
 returns c =
+    let start = c.before.before.before.before.before.before.before.before.before.before.before in
     continues c.set_system_mask.result c.set_system_mask.new.storage
     c.set_system_mask.new.keys
-    (chosen _ _ _ (begin (entry c.before.before.before.before.before.before.before.before.before.before.before) (stage c.before.before.before.before.before.before.before.before.before.before.before))
+    (chosen _ _ _ (begin (entry start) (stage start))
     (eq-eqb _ _ (sym c.operation-operation.ensures ∙ c.if-operation-eq128.true)))
     c.set_system_mask.ensures
 
 abbrev not-ssm : tie.Else-operation-eq128 → Reached entry stage
 unfolding instruction
 not-ssm c =
-    reached c.before.before.before.before
-    (rejected _ _ _ (begin (entry c.before.before.before.before) (stage c.before.before.before.before))
+    let start = c.before.before.before.before in
+    reached start
+    (rejected _ _ _ (begin (entry start) (stage start))
     (ne_eqb _ _ (λ e. c.if-operation-eq128.false (c.operation-operation.ensures ∙ e))))
 
 -- STCTL
@@ -84,7 +86,8 @@ returns-3 c =
     let here = not-stctl c.before.before.before.before.before.before.before.before.before.before in
     let a = here.start.args in
     continues c.store_then.result c.store_then.new.storage c.store_then.new.keys
-    (either-change a.call _ _ _ here.runs (one_of_two c.before.before.before.before.before.before.before.before.before ∙ c.if-is_store_then.true))
+    (either-change a.call _ _ _ here.runs
+    (one_of_two c.before.before.before.before.before.before.before.before.before ∙ c.if-is_store_then.true))
     (c.store_then.ensures
     ∙ ap (λ x. finish (seen (store_then x a.call) (entry here.start)))
     (c.mask_change.ensures ∙ ap (λ o. change_by (eqb o 0xac)) c.operation-operation.ensures))

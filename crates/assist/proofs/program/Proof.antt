@@ -22,7 +22,8 @@ stage c = program (length c.args.storage.now) (length c.args.keys.now) c.args.ca
 abbrev storage : tie.After-is_wrong_storage → Tested entry stage
 unfolding admitted
 storage c =
-    tests c.before.before.before.before _ _ _ (begin (entry c.before.before.before.before) (stage c.before.before.before.before)) c.is_wrong_storage.result c.is_wrong_storage.ensures
+    let start = c.before.before.before.before in
+    tests start _ _ _ (begin (entry start) (stage start)) c.is_wrong_storage.result c.is_wrong_storage.ensures
 
 returns : tie.Need-returns-then-is_wrong_storage
 unfolding admitted storage

@@ -94,7 +94,8 @@ module _ (c : Call) (h : assisted_code (operation c) ≡ true) where
   )
 
 -- whatever the sizes
-pub attempt_fits : (bytes keys : ℕ) (c : Call) → Fits (operation c) c (program bytes keys c) (longest_list (operation c))
+pub attempt_fits : (bytes keys : ℕ) (c : Call) → Fits (operation c) c (program bytes keys c) (longest_list
+    (operation c))
 unfolding ◌>>=◌ stop_if admitted
 attempt_fits bytes keys c =
     let code = sym (table_as_by_code c).assisted in (

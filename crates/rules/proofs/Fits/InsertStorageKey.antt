@@ -1,5 +1,27 @@
 -- INSERT STORAGE KEY: how it can end, and at most 8 references.
-use Rattle.std.proofs.Common.{◌≡◌, ℕ, ◌+◌, ◌*◌, ◌≤◌, Bool, true, false, ltb, List, length, get_or, set, refl, ap, ◌∙◌, arith, get_or-set_same, set-set, ltb-false, ltb-true}
+use Rattle.std.proofs.Common.{
+  ◌≡◌,
+  ℕ,
+  ◌+◌,
+  ◌*◌,
+  ◌≤◌,
+  Bool,
+  true,
+  false,
+  ltb,
+  List,
+  length,
+  get_or,
+  set,
+  refl,
+  ap,
+  ◌∙◌,
+  arith,
+  get_or-set_same,
+  set-set,
+  ltb-false,
+  ltb-true,
+}
 use lib.Seq.{set_out}
 use Rattle.operations.specs.Operations.{length_of}
 use Rattle.rules.specs.Bits.{bits, word}

@@ -1,5 +1,25 @@
 -- STORE CONTROL: how it can end, and at most 85 references.
-use Rattle.std.proofs.Common.{◌≡◌, ℕ, zero, suc, ◌+◌, ◌*◌, ◌^◌, ◌<◌, ◌≤◌, List, [], ◌∷◌, ◌++◌, length, refl, ◌∙◌, suc-mul, arith, length-append}
+use Rattle.std.proofs.Common.{
+  ◌≡◌,
+  ℕ,
+  zero,
+  suc,
+  ◌+◌,
+  ◌*◌,
+  ◌^◌,
+  ◌<◌,
+  ◌≤◌,
+  List,
+  [],
+  ◌∷◌,
+  ◌++◌,
+  length,
+  refl,
+  ◌∙◌,
+  suc-mul,
+  arith,
+  length-append,
+}
 use Rattle.rules.specs.Machine.{◌⊕◌}
 use Rattle.rules.specs.Guest.{Guest, instruction_address}
 use Rattle.rules.specs.Steps.{Steps, ◌>>=◌, fetch_bytes, stop_if}

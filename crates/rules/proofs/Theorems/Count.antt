@@ -1,5 +1,21 @@
 -- The count: the length of the list, and at most the longest list of each instruction.
-use Rattle.std.proofs.Common.{◌≡◌, ℕ, ◌+◌, ◌≤◌, Bool, true, false, cond, ◌||◌, eqb, List, length, refl, arith, length-append}
+use Rattle.std.proofs.Common.{
+  ◌≡◌,
+  ℕ,
+  ◌+◌,
+  ◌≤◌,
+  Bool,
+  true,
+  false,
+  cond,
+  ◌||◌,
+  eqb,
+  List,
+  length,
+  refl,
+  arith,
+  length-append,
+}
 use lib.ListN.{length-map}
 use Rattle.rules.specs.Machine.{Machine}
 use Rattle.rules.specs.References.{Reference}

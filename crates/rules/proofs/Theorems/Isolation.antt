@@ -1,7 +1,27 @@
 -- Demand 3. Three machines are followed: one list's alone, the other's alone, and both lists'. Outside what one list
 -- may put, the third agrees with the other's, but for reference bits; so each call reads the same as alone (locality),
 -- and does the same.
-use Rattle.std.proofs.Common.{◌≡◌, ℕ, Bool, true, false, ◌||◌, ltb, List, [], ◌∷◌, map, length, get_or, sym, refl, ap, ◌∙◌, subst, lt-ltb}
+use Rattle.std.proofs.Common.{
+  ◌≡◌,
+  ℕ,
+  Bool,
+  true,
+  false,
+  ◌||◌,
+  ltb,
+  List,
+  [],
+  ◌∷◌,
+  map,
+  length,
+  get_or,
+  sym,
+  refl,
+  ap,
+  ◌∙◌,
+  subst,
+  lt-ltb,
+}
 use mathlib.Core.Bool.{or_assoc, or-false}
 use Rattle.rules.specs.Machine.{Machine}
 use Rattle.rules.specs.Writes.{entry}

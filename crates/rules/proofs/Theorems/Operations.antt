@@ -1,5 +1,28 @@
 -- The operation byte by the table, and the operation code: both decide alike.
-use Rattle.std.proofs.Common.{◌≡◌, ℕ, ◌/◌, ◌%◌, ◌<◌, Bool, true, false, cond, not, ◌&&◌, ◌||◌, eqb, sym, refl, ap, ◌∙◌, subst, ⊎_elim, arith, ne_eqb, eqb-true}
+use Rattle.std.proofs.Common.{
+  ◌≡◌,
+  ℕ,
+  ◌/◌,
+  ◌%◌,
+  ◌<◌,
+  Bool,
+  true,
+  false,
+  cond,
+  not,
+  ◌&&◌,
+  ◌||◌,
+  eqb,
+  sym,
+  refl,
+  ap,
+  ◌∙◌,
+  subst,
+  ⊎_elim,
+  arith,
+  ne_eqb,
+  eqb-true,
+}
 use mathlib.Core.Bool.{and-true, or-false}
 use Rattle.operations.specs.Operations.{length_of, begins_assisted}
 use Rattle.operations.proofs.Junctions.{either_true}

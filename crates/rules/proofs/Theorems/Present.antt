@@ -1,6 +1,26 @@
 -- Every entry of an attempt names what is there: an entry is made only for what is, and what is written was read or
 -- tested before.
-use Rattle.std.proofs.Common.{◌≡◌, ℕ, ◌/◌, ◌<◌, Bool, true, false, not, ltb, List, [], ◌∷◌, map, length, refl, ap, ◌∙◌, arith, ltb-true}
+use Rattle.std.proofs.Common.{
+  ◌≡◌,
+  ℕ,
+  ◌/◌,
+  ◌<◌,
+  Bool,
+  true,
+  false,
+  not,
+  ltb,
+  List,
+  [],
+  ◌∷◌,
+  map,
+  length,
+  refl,
+  ap,
+  ◌∙◌,
+  arith,
+  ltb-true,
+}
 use Rattle.rules.specs.Machine.{Machine, addresses, has}
 use Rattle.rules.specs.Endings.{
   Ending,

@@ -156,7 +156,8 @@ load_edges =
     all_formats pages_4k ++ all_formats pages_2k ++ (
     -- address 112E78: with 64K segments the segment table is too short; with 1M segments there is no such test
     loads (machine pages_4k 0x00800000 []) 0x5a112e68 6 3 (0x900 + 4 * 0x11) block_zero
-    ∷ loads (machine pages_4k 0x00900000 (store 0x904 4 0x10000980 ∷ store 0x9a4 2 0xabc0 ∷ [])) 0x5a112e68 12 0 0xabce78
+    ∷ loads (machine pages_4k 0x00900000
+    (store 0x904 4 0x10000980 ∷ store 0x9a4 2 0xabc0 ∷ [])) 0x5a112e68 12 0 0xabce78
     pages_4k.keys
     -- entry addresses round the top: FFFFC0 + 4 * 11 and FFFFF8 + 2 * 5, with a real address and with condition code 1
     ∷ loads (machine pages_4k 0x00400000 (store 0x64 4 0x01ffffc0 ∷ store 0x04 4 0x20fffff8 ∷ store 0x02 2 0x5678 ∷ []))

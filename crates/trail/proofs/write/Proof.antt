@@ -32,7 +32,8 @@ returns-3 : tie.Need-returns-then-has_room
 unfolding write
 returns-3 c =
     let seen = sym c.has_room.ensures ∙ c.if-has_room.true in
-    numbered (simp (le-ltb _ _ c.if-buffer-lt-TRAILER_BYTES.false, found c.before.before.before.before.before, seen) c.add.ensures)
+    numbered (simp (le-ltb _ _ c.if-buffer-lt-TRAILER_BYTES.false, found c.before.before.before.before.before, seen)
+    c.add.ensures)
 
 turn-away-requires : tie.Need-turn_away-requires
 turn-away-requires c κs =
@@ -43,7 +44,8 @@ returns-4 : tie.Need-returns
 unfolding write
 returns-4 c =
     let seen = sym c.has_room.ensures ∙ c.if-has_room.false in
-    numbered (simp (le-ltb _ _ c.if-buffer-lt-TRAILER_BYTES.false, found c.before.before.before.before.before, seen) c.turn_away.ensures)
+    numbered (simp (le-ltb _ _ c.if-buffer-lt-TRAILER_BYTES.false, found c.before.before.before.before.before, seen)
+    c.turn_away.ensures)
 
 pub write_spec : {M : Type 1} → statement M
 write_spec =

@@ -18,7 +18,9 @@ stage c = key_test (passes_for c.args.store) c.args.psw_key c.args.real
 abbrev consulted : (s : List ℕ) → tie.After-consult_key-consulted → Asked (entry s) stage
 unfolding key_test
 consulted s c =
-    asks c.before.before.before _ _ (begin (entry s c.before.before.before) (stage c.before.before.before)) c.consult_key-consulted.result s c.consult_key-consulted.new.keys
+    let start = c.before.before.before in
+    asks start _ _ (begin (entry s start)
+    (stage start)) c.consult_key-consulted.result s c.consult_key-consulted.new.keys
     (fresh _ _ (c.consult_key-consulted.ensures s))
 
 abbrev protected : (s : List ℕ) → tie.After-passes → Tested (entry s) stage

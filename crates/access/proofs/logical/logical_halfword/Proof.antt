@@ -17,7 +17,8 @@ stage c = logical_fetch c.args.guest c.args.at 2
 abbrev tested : tie.After-fetch_access-tested → Asked entry stage
 unfolding logical_fetch
 tested c =
-    asks c.before.before.before.before _ _ (begin (entry c.before.before.before.before) (stage c.before.before.before.before)) c.fetch_access-tested.result c.args.storage.now
+    let start = c.before.before.before.before in
+    asks start _ _ (begin (entry start) (stage start)) c.fetch_access-tested.result c.args.storage.now
     c.fetch_access-tested.new.keys (fresh _ _ c.fetch_access-tested.ensures)
 
 returns : tie.Need-returns-in_default

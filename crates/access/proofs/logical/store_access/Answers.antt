@@ -14,7 +14,8 @@ returns c =
     -- where both ways have met: the real address
     let resolved : told c.if-dat_on.walked s c.if-dat_on.keys ≡ seen (real_of a.guest a.at) entry =
     elim c.if-dat_on.branch [
-      | then-dat_on w ↦ translated a.guest a.at _ s _ _ _ _ (dat ∙ w.if-dat_on.true) w.translate-walked.ensures w.walked-is w.keys-is
+      | then-dat_on w ↦ translated a.guest a.at _ s _ _ _ _ (dat
+          ∙ w.if-dat_on.true) w.translate-walked.ensures w.walked-is w.keys-is
       | else-dat_on w ↦ as_it_is a.guest a.at _ s _ _ (dat ∙ w.if-dat_on.false) w.walked-is w.keys-is
     ] in
     simp c.psw_key.ensures at (c.walked_test.ensures (real_of a.guest a.at) entry s resolved)

@@ -18,7 +18,8 @@ stage c = store_test c.args.guest c.args.at
 abbrev low : tie.After-protects_low → Tested entry stage
 unfolding store_test
 low c =
-    tests c.before.before.before _ _ _ (begin (entry c.before.before.before) (stage c.before.before.before)) c.protects_low.result c.protects_low.ensures
+    let start = c.before.before.before in
+    tests start _ _ _ (begin (entry start) (stage start)) c.protects_low.result c.protects_low.ensures
 
 returns : tie.Need-returns-then-protects_low
 unfolding store_test low

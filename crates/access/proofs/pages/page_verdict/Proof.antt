@@ -47,7 +47,8 @@ unfolding page_verdict valid
 returns-3 c =
     λ s ks p m h. simp c.real_address.ensures
     (settles _
-    (rejected _ _ _ (valid s ks p m c.before.before.before h).runs (sym c.is_malformed.ensures ∙ c.if-is_malformed.false)))
+    (rejected _ _ _ (valid s ks p m c.before.before.before h).runs (sym c.is_malformed.ensures
+    ∙ c.if-is_malformed.false)))
 
 pub page_verdict_spec : {M : Type 1} → statement M
 page_verdict_spec =

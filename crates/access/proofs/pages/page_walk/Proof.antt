@@ -17,8 +17,9 @@ stage c = page_walk (entry_of 2 c.args.missing) c.args.format c.args.segment c.a
 abbrev fetched : tie.After-item → Asked entry stage
 unfolding page_walk
 fetched c =
+    let start = c.before.before.before.before.before in
     let a = c.args in
-    asks c.before.before.before.before.before _ _ (begin (entry c.before.before.before.before.before) (stage c.before.before.before.before.before)) (fetched_as c.item.result a.missing) a.storage.now
+    asks start _ _ (begin (entry start) (stage start)) (fetched_as c.item.result a.missing) a.storage.now
     c.item.new.keys (fresh _ _ (simp c.page_entry_at-place.ensures at (c.item.ensures a.missing)))
 
 returns : tie.Need-returns-in_default

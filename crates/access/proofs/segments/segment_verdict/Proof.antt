@@ -52,13 +52,15 @@ unfolding segment_verdict valid formed
 returns-3 c =
     λ s ks p m h. simp c.page_entry_at-beyond.ensures
     (settles _
-    (chosen _ _ _ (formed s ks p m c.before.before.before h).runs (sym c.is_beyond_pages.ensures ∙ c.if-is_beyond_pages.true)))
+    (chosen _ _ _ (formed s ks p m c.before.before.before h).runs (sym c.is_beyond_pages.ensures
+    ∙ c.if-is_beyond_pages.true)))
 
 returns-4 : tie.Need-returns
 unfolding segment_verdict valid formed
 returns-4 c =
     λ s ks p m h. settles _
-    (rejected _ _ _ (formed s ks p m c.before.before h).runs (sym c.is_beyond_pages.ensures ∙ c.if-is_beyond_pages.false))
+    (rejected _ _ _ (formed s ks p m c.before.before h).runs (sym c.is_beyond_pages.ensures
+    ∙ c.if-is_beyond_pages.false))
 
 pub segment_verdict_spec : {M : Type 1} → statement M
 segment_verdict_spec =

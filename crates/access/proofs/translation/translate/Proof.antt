@@ -25,17 +25,19 @@ unknown = Interruption TranslationSpecification
 returns : tie.Need-returns-in_default
 unfolding translate
 returns c =
-    let m = entry c.before.before.before.before in
-    unformed unknown _ _ (begin m (stage c.before.before.before.before)) c.format_of.result (c.format_of.ensures unknown m)
+    let start = c.before.before.before.before in
+    let m = entry start in
+    unformed unknown _ _ (begin m (stage start)) c.format_of.result (c.format_of.ensures unknown m)
     c.in_default.is
 
 abbrev known : tie.In-Of → Reached entry stage
 unfolding translate table_walk
 known c =
-    let m = entry c.before.before.before.before in
-    reached c.before.before.before.before
+    let start = c.before.before.before.before in
+    let m = entry start in
+    reached start
     (in_halves _ _ _
-    (formed unknown _ _ (begin m (stage c.before.before.before.before)) c.format_of.result (c.format_of.ensures unknown m)
+    (formed unknown _ _ (begin m (stage start)) c.format_of.result (c.format_of.ensures unknown m)
     c.in-Of.is))
 
 -- steps 2 to 4: the segment entry

@@ -21,9 +21,10 @@ stage c = real_by c.args.rseg c.args.segment c.args.page c.args.at
 abbrev segment : tie.After-or_refuse-found → Asked entry stage
 unfolding real_by table_walk
 segment c =
+    let start = c.before.before.before.before.before.before.before.before in
     let s = c.args.storage.now in
     let ks = c.segment_walk.new.keys in
-    asks c.before.before.before.before.before.before.before.before _ _ (in_halves _ _ _ (begin (entry c.before.before.before.before.before.before.before.before) (stage c.before.before.before.before.before.before.before.before))) c.or_refuse-found.result s ks
+    asks start _ _ (in_halves _ _ _ (begin (entry start) (stage start))) c.or_refuse-found.result s ks
     (fresh _ _
     (walk_ended (λ x. refuse) c.segment_walk.result c.or_refuse-found.result s ks _ _ c.or_refuse-found.ensures
     (simp c.real_format-format.ensures at c.segment_walk.ensures)))

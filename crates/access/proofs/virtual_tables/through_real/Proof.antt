@@ -21,7 +21,8 @@ stage c =
 abbrev real : tie.After-real_by-found → Asked entry stage
 unfolding through_real
 real c =
-    asks c.before.before.before.before _ _ (begin (entry c.before.before.before.before) (stage c.before.before.before.before)) c.real_by-found.result c.args.storage.now
+    let start = c.before.before.before.before in
+    asks start _ _ (begin (entry start) (stage start)) c.real_by-found.result c.args.storage.now
     c.real_by-found.new.keys (fresh _ _ c.real_by-found.ensures)
 
 returns : tie.Need-returns-in_default

@@ -20,7 +20,8 @@ stage c = page_walk (through_real c.args.rseg 7 8 2) c.args.format c.args.segmen
 abbrev read : tie.After-through_real-read → Asked entry stage
 unfolding page_walk
 read c =
-    asks c.before.before.before.before.before _ _ (begin (entry c.before.before.before.before.before) (stage c.before.before.before.before.before)) c.through_real-read.result c.args.storage.now
+    let start = c.before.before.before.before.before in
+    asks start _ _ (begin (entry start) (stage start)) c.through_real-read.result c.args.storage.now
     c.through_real-read.new.keys
     (fresh _ _ (simp c.page_entry_at-place.ensures at c.through_real-read.ensures))
 

@@ -20,15 +20,19 @@ stage c = segment_walk (through_real c.args.rseg 5 6 4) c.args.format c.args.tab
 returns : tie.Need-returns-then-is_beyond_segments
 unfolding segment_walk
 returns c =
+    let start = c.before.before.before.before.before in
     simp c.segment_entry_at-place.ensures
     (settles _
-    (chosen _ _ _ (begin (entry c.before.before.before.before.before) (stage c.before.before.before.before.before)) (sym c.is_beyond_segments.ensures ∙ c.if-is_beyond_segments.true)))
+    (chosen _ _ _ (begin (entry start) (stage start)) (sym c.is_beyond_segments.ensures
+    ∙ c.if-is_beyond_segments.true)))
 
 abbrev long : tie.Else-is_beyond_segments → Reached entry stage
 unfolding segment_walk
 long c =
-    reached c.before.before.before.before.before
-    (rejected _ _ _ (begin (entry c.before.before.before.before.before) (stage c.before.before.before.before.before)) (sym c.is_beyond_segments.ensures ∙ c.if-is_beyond_segments.false))
+    let start = c.before.before.before.before.before in
+    reached start
+    (rejected _ _ _ (begin (entry start) (stage start)) (sym c.is_beyond_segments.ensures
+    ∙ c.if-is_beyond_segments.false))
 
 -- steps 7 to 12
 abbrev read : tie.After-through_real-read → Asked entry stage

@@ -16,7 +16,8 @@ unfolding virtual_walk table_walk
 returns c =
     let s = c.args.storage.now in
     let runs =
-    went_on _ _ (entry c.before.before.before.before.before.before.before.before.before.before.before.before) c.virtual_segment-segment.result s c.virtual_segment-segment.new.keys
+    went_on _ _ (entry c.before.before.before.before.before.before.before.before.before.before.before.before)
+    c.virtual_segment-segment.result s c.virtual_segment-segment.new.keys
     c.virtual_segment-segment.ensures c.in-Found.is in
     walk_after _ runs c.virtual_page.result c.after.result s c.virtual_page.new.keys
     c.after.ensures c.virtual_page.ensures
@@ -24,13 +25,15 @@ returns c =
 returns-2 : tie.Need-returns-in-Fault
 unfolding virtual_walk table_walk
 returns-2 c =
-    faulted _ _ (entry c.before.before.before.before.before.before.before) c.virtual_segment-segment.result c.args.storage.now
+    faulted _ _ (entry c.before.before.before.before.before.before.before) c.virtual_segment-segment.result
+    c.args.storage.now
     c.virtual_segment-segment.new.keys c.virtual_segment-segment.ensures c.in-Fault.is
 
 returns-3 : tie.Need-returns-in-Stopped
 unfolding virtual_walk table_walk
 returns-3 c =
-    stopped_short _ _ (entry c.before.before.before.before.before.before.before) c.virtual_segment-segment.result c.args.storage.now
+    stopped_short _ _ (entry c.before.before.before.before.before.before.before) c.virtual_segment-segment.result
+    c.args.storage.now
     c.virtual_segment-segment.new.keys c.virtual_segment-segment.ensures c.in-Stopped.is
 
 pub virtual_walk_spec : {M : Type 1} → statement M

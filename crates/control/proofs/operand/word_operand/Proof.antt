@@ -20,7 +20,8 @@ stage c = word_operand c.args.guest
 abbrev second : tie.After-second_halfword-second → Asked entry stage
 unfolding word_operand
 second c =
-    asks c.before.before.before.before _ _ (begin (entry c.before.before.before.before) (stage c.before.before.before.before)) c.second_halfword-second.result c.args.storage.now
+    let start = c.before.before.before.before in
+    asks start _ _ (begin (entry start) (stage start)) c.second_halfword-second.result c.args.storage.now
     c.second_halfword-second.new.keys (fresh _ _ c.second_halfword-second.ensures)
 
 returns : tie.Need-returns-in_default

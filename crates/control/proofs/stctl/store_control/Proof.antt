@@ -29,7 +29,8 @@ wanted c = register_count (r1 c.args.call) (r3 c.args.call)
 abbrev block : tie.After-control_block-field → Asked entry stage
 unfolding store_control
 block c =
-    asks c.before.before.before.before.before _ _ (begin (entry c.before.before.before.before.before) (stage c.before.before.before.before.before)) c.control_block-field.result c.args.storage.now
+    let start = c.before.before.before.before.before in
+    asks start _ _ (begin (entry start) (stage start)) c.control_block-field.result c.args.storage.now
     c.control_block-field.new.keys (fresh _ _ c.control_block-field.ensures)
 
 returns : tie.Need-returns-in_default
@@ -96,7 +97,8 @@ words c =
     let here = values c in
     asks_words here.start _ _ here.runs (wanted here.start) c.operand_words-words.result
     c.after-end.result here.start.args.storage.now c.operand_words-words.new.keys c.after-end.ensures
-    (simp (counted c.before.before.before.before.before.before.before.before.before.before.before) at c.operand_words-words.ensures.0)
+    (simp (counted c.before.before.before.before.before.before.before.before.before.before.before) at
+    c.operand_words-words.ensures.0)
 
 same-length-8 : tie.Need-shape_of-keys-in_default-end
 unfolding store_control block operand address registers values
@@ -132,10 +134,11 @@ same-length-10 c =
 returns-5 : tie.Need-returns
 unfolding store_control block operand address registers values words reals
 returns-5 c =
+    let earlier = c.before.before.before.before.before.before.before.before.before.before.before.before in
     let here = reals c.before.before.before.before.before in
     let to = c.operand_words-words in
     let from = c.virtual_registers-registers in
-    let n = c.before.before.before.before.before.before.before.before.before.before.before.before.before.before.before.before.before.before.before.before.before.before in
+    let n = earlier.before.before.before.before.before.before.before.before.before.before in
     let e = counted n in
     completes c.completed.result c.store_words.new.storage
     c.store_words.new.keys _ here.runs

@@ -21,13 +21,15 @@ stage c = mask_operand c.args.guest
 returns : tie.Need-returns-then-guest-ne2
 unfolding mask_operand
 returns c =
-    stops _ _ _ (begin (entry c.before.before.before.before) (stage c.before.before.before.before)) (simp (ne_eqb _ _ c.if-guest-ne2.true))
+    let start = c.before.before.before.before in
+    stops _ _ _ (begin (entry start) (stage start)) (simp (ne_eqb _ _ c.if-guest-ne2.true))
 
 -- step 2: MICCREG
 abbrev creg : tie.After-micblok_word-field → Asked entry stage
 unfolding mask_operand
 creg c =
-    asks c.before.before.before.before.before.before _ _ (pass _ _ _ (begin (entry c.before.before.before.before.before.before) (stage c.before.before.before.before.before.before)) (simp (eq-eqb _ _ c.if-guest-ne2.false)))
+    let start = c.before.before.before.before.before.before in
+    asks start _ _ (pass _ _ _ (begin (entry start) (stage start)) (simp (eq-eqb _ _ c.if-guest-ne2.false)))
     c.micblok_word-field.result c.args.storage.now c.micblok_word-field.new.keys
     (fresh _ _ c.micblok_word-field.ensures)
 

@@ -20,7 +20,8 @@ stage c = mask_target c.args.call c.args.new
 abbrev field : tie.After-micblok_word-field → Asked entry stage
 unfolding mask_target
 field c =
-    asks c.before.before.before.before.before _ _ (begin (entry c.before.before.before.before.before) (stage c.before.before.before.before.before)) c.micblok_word-field.result c.args.storage.now
+    let start = c.before.before.before.before.before in
+    asks start _ _ (begin (entry start) (stage start)) c.micblok_word-field.result c.args.storage.now
     c.micblok_word-field.new.keys (fresh _ _ c.micblok_word-field.ensures)
 
 returns : tie.Need-returns-in_default

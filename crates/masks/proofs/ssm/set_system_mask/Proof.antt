@@ -21,7 +21,8 @@ stage c = set_system_mask c.args.call
 abbrev operand : tie.After-mask_operand-operand → Asked entry stage
 unfolding set_system_mask
 operand c =
-    asks c.before.before.before.before.before _ _ (begin (entry c.before.before.before.before.before) (stage c.before.before.before.before.before)) c.mask_operand-operand.result c.args.storage.now
+    let start = c.before.before.before.before.before in
+    asks start _ _ (begin (entry start) (stage start)) c.mask_operand-operand.result c.args.storage.now
     c.mask_operand-operand.new.keys (fresh _ _ c.mask_operand-operand.ensures)
 
 returns : tie.Need-returns-in_default

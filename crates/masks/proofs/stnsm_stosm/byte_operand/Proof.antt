@@ -19,9 +19,10 @@ stage c = byte_operand c.args.guest
 abbrev second : tie.After-or_refuse-second → Asked entry stage
 unfolding byte_operand
 second c =
+    let start = c.before.before.before.before.before.before.before in
     let s = c.args.storage.now in
     let ks = c.second_halfword.new.keys in
-    asks c.before.before.before.before.before.before.before _ _ (begin (entry c.before.before.before.before.before.before.before) (stage c.before.before.before.before.before.before.before)) c.or_refuse-second.result s ks
+    asks start _ _ (begin (entry start) (stage start)) c.or_refuse-second.result s ks
     (fresh _ _ (refuses c.second_halfword.result c.or_refuse-second.result s ks _ _ c.or_refuse-second.ensures
     c.second_halfword.ensures))
 

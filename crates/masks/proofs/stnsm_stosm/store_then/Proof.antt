@@ -40,7 +40,8 @@ stage c = store_then c.args.change c.args.call
 abbrev assisted : tie.After-assists_control → Tested entry stage
 unfolding store_then
 assisted c =
-    tests c.before.before.before.before _ _ _ (begin (entry c.before.before.before.before) (stage c.before.before.before.before)) (not c.assists_control.result)
+    let start = c.before.before.before.before in
+    tests start _ _ _ (begin (entry start) (stage start)) (not c.assists_control.result)
     (ap not c.assists_control.ensures)
 
 returns : tie.Need-returns-then-not-assists_control
@@ -126,7 +127,8 @@ operand c =
 same-length-8 : tie.Need-shape_of-keys-in_default-operand
 unfolding store_then assisted field halfword first
 same-length-8 c =
-    c.byte_operand.auto.keys ∙ reached_keys (first c.before.before.before.before.before.before.before.before.before.before.before.before.before.before)
+    c.byte_operand.auto.keys ∙ reached_keys
+    (first c.before.before.before.before.before.before.before.before.before.before.before.before.before.before)
 
 returns-5 : tie.Need-returns-in_default-operand
 unfolding store_then assisted field halfword first expands operand
@@ -139,7 +141,8 @@ returns-5 c =
 put-mask-requires : tie.Need-put_mask-requires
 unfolding store_then assisted field halfword
 put-mask-requires c κs =
-    let asked = halfword c.before.before.before.before.before.before.before.before.before.before.before.before.before.before.before.before.before.before.before.before.before.before.before in
+    let earlier = c.before.before.before.before.before.before.before.before.before.before.before.before in
+    let asked = halfword earlier.before.before.before.before.before.before.before.before.before.before.before in
     let s = length asked.left.storage in
     let fetched = sure _ asked c.in-Value-halfword.is (fetch_bytes-gives s (length asked.left.keys) _ 2 _) in
     let there = first_there s _ 1 fetched in
@@ -153,18 +156,21 @@ real c =
 same-length-10 : tie.Need-shape_of-keys
 unfolding store_then assisted field halfword first expands operand real
 same-length-10 c =
-    c.put_mask.auto.keys ∙ c.store_byte.auto.keys ∙ reached_keys (real c.before.before.before.before.before.before.before.before.before.before.before.before)
+    c.put_mask.auto.keys ∙ c.store_byte.auto.keys ∙ reached_keys
+    (real c.before.before.before.before.before.before.before.before.before.before.before.before)
 
 returns-6 : tie.Need-returns
 unfolding store_then assisted field halfword first expands operand real
 returns-6 c =
+    let earlier = c.before.before.before.before.before.before.before.before.before.before.before.before in
+    let first = earlier.before.before.before.before.before.before.before.before.before.before.before.before.before in
     let here = real c.before.before.before.before.before.before.before.before.before.before.before.before in
     let a = here.start.args in
     let new = store (address_in c.in-Value.vpsw) 1
     (new_mask a.change (mask_in c.in-Value-halfword.first) (immediate a.call)) in
     completes c.completed.result c.put_mask.new.storage c.put_mask.new.keys _ here.runs
     c.completed.ensures
-    (simp (changed c.before.before.before.before.before.before.before.before.before.before.before.before.before.before.before.before.before.before.before.before.before.before.before.before.before, c.address_in-at.ensures) at c.put_mask.ensures
+    (simp (changed first, c.address_in-at.ensures) at c.put_mask.ensures
     ∙ ap (λ m. perform m new)
     (c.store_byte.ensures
     ∙ ap (λ v. perform here.left (store c.in-Value-operand.real 1 v)) c.mask_in-old.ensures.0))

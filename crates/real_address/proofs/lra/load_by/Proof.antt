@@ -29,27 +29,31 @@ gave c e =
 returns : tie.Need-returns-in-Found
 unfolding load_by
 returns c =
-    let m = entry c.before.before.before.before.before.before.before.before.before in
+    let start = c.before.before.before.before.before.before.before.before.before in
+    let m = entry start in
     let s = c.args.storage.now in
     let ks = c.virtual_walk-walked.new.keys in
     finishes c.loaded.result c.answer_after.result s ks
-    (goes _ _ (begin m (stage c.before.before.before.before.before.before.before.before.before)) (gave c.before.before.before.before.before c.in-Found.is)) c.answer_after.ensures
+    (goes _ _ (begin m (stage start)) (gave c.before.before.before.before.before c.in-Found.is)) c.answer_after.ensures
     (c.loaded.ensures s ks)
 
 returns-2 : tie.Need-returns-in-Fault
 unfolding load_by
 returns-2 c =
-    let m = entry c.before.before.before.before.before.before.before.before.before in
+    let start = c.before.before.before.before.before.before.before.before.before in
+    let m = entry start in
     let s = c.args.storage.now in
     let ks = c.virtual_walk-walked.new.keys in
     finishes c.faulted.result c.answer_after-in-Fault.result s ks
-    (goes _ _ (begin m (stage c.before.before.before.before.before.before.before.before.before)) (gave c.before.before.before.before.before c.in-Fault.is)) c.answer_after-in-Fault.ensures
+    (goes _ _ (begin m (stage start))
+    (gave c.before.before.before.before.before c.in-Fault.is)) c.answer_after-in-Fault.ensures
     (c.faulted.ensures s ks)
 
 returns-3 : tie.Need-returns-in-Stopped
 unfolding load_by
 returns-3 c =
-    ap finish (ends _ _ (begin (entry c.before.before.before.before.before.before.before) (stage c.before.before.before.before.before.before.before)) (gave c.before.before.before c.in-Stopped.is))
+    let start = c.before.before.before.before.before.before.before in
+    ap finish (ends _ _ (begin (entry start) (stage start)) (gave c.before.before.before c.in-Stopped.is))
 
 pub load_by_spec : {M : Type 1} → statement M
 load_by_spec =

@@ -21,7 +21,8 @@ stage c = load_real_address c.args.call
 abbrev assisted : tie.After-assists_control → Tested entry stage
 unfolding load_real_address
 assisted c =
-    tests c.before.before.before.before _ _ _ (begin (entry c.before.before.before.before) (stage c.before.before.before.before)) (not c.assists_control.result)
+    let start = c.before.before.before.before in
+    tests start _ _ _ (begin (entry start) (stage start)) (not c.assists_control.result)
     (ap not c.assists_control.ensures)
 
 returns : tie.Need-returns-then-not-assists_control

@@ -22,7 +22,8 @@ stage c = load_through c.args.call c.args.rseg c.args.ecblok
 abbrev first : tie.After-control_word-word_0 → Asked entry stage
 unfolding load_through
 first c =
-    asks c.before.before.before.before.before _ _ (begin (entry c.before.before.before.before.before) (stage c.before.before.before.before.before)) c.control_word-word_0.result c.args.storage.now
+    let start = c.before.before.before.before.before in
+    asks start _ _ (begin (entry start) (stage start)) c.control_word-word_0.result c.args.storage.now
     c.control_word-word_0.new.keys (fresh _ _ c.control_word-word_0.ensures)
 
 returns : tie.Need-returns-in_default

@@ -19,8 +19,9 @@ stage c = insert_block_key c.args.guest c.args.page
 abbrev consulted : tie.After-consult_key-consulted → Asked entry stage
 unfolding insert_block_key
 consulted c =
+    let start = c.before.before.before.before in
     let s = c.args.storage.now in
-    asks c.before.before.before.before _ _ (begin (entry c.before.before.before.before) (stage c.before.before.before.before)) c.consult_key-consulted.result s c.consult_key-consulted.new.keys
+    asks start _ _ (begin (entry start) (stage start)) c.consult_key-consulted.result s c.consult_key-consulted.new.keys
     (fresh _ _ (c.consult_key-consulted.ensures s))
 
 returns : tie.Need-returns-in_default

@@ -20,7 +20,8 @@ stage c = insert_storage_key c.args.call
 abbrev table : tie.After-segment_table-table → Asked entry stage
 unfolding insert_storage_key
 table c =
-    asks c.before.before.before.before.before.before.before.before _ _ (begin (entry c.before.before.before.before.before.before.before.before) (stage c.before.before.before.before.before.before.before.before)) c.segment_table-table.result c.args.storage.now
+    let start = c.before.before.before.before.before.before.before.before in
+    asks start _ _ (begin (entry start) (stage start)) c.segment_table-table.result c.args.storage.now
     c.segment_table-table.new.keys
     (fresh _ _
     (simp (c.places.ensures, c.assists_keys.ensures) at c.segment_table-table.ensures))

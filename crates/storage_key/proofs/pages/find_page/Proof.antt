@@ -20,7 +20,8 @@ stage c = find_page c.args.numbers c.args.rseg c.args.at
 abbrev segment : tie.After-segment_of-entry → Asked entry stage
 unfolding find_page
 segment c =
-    asks c.before.before.before.before.before _ _ (begin (entry c.before.before.before.before.before) (stage c.before.before.before.before.before)) c.segment_of-entry.result c.args.storage.now
+    let start = c.before.before.before.before.before in
+    asks start _ _ (begin (entry start) (stage start)) c.segment_of-entry.result c.args.storage.now
     c.segment_of-entry.new.keys (fresh _ _ (simp c.format_in-format.ensures at c.segment_of-entry.ensures))
 
 returns : tie.Need-returns-in_default

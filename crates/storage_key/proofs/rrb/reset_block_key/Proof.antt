@@ -26,8 +26,9 @@ stage c = reset_block_key c.args.page
 abbrev consulted : tie.After-consult_key-consulted → Asked entry stage
 unfolding reset_block_key
 consulted c =
+    let start = c.before.before.before.before in
     let s = c.args.storage.now in
-    asks c.before.before.before.before _ _ (begin (entry c.before.before.before.before) (stage c.before.before.before.before)) c.consult_key-consulted.result s c.consult_key-consulted.new.keys
+    asks start _ _ (begin (entry start) (stage start)) c.consult_key-consulted.result s c.consult_key-consulted.new.keys
     (fresh _ _ (c.consult_key-consulted.ensures s))
 
 returns : tie.Need-returns-in_default
@@ -55,7 +56,8 @@ old c =
 same-length-3 : tie.Need-shape_of-keys
 unfolding reset_block_key consulted old
 same-length-3 c =
-    c.put_swap_word.auto.keys ∙ c.put_key.auto.keys ∙ reached_keys (old c.before.before.before.before.before.before.before.before.before.before.before.before)
+    c.put_swap_word.auto.keys ∙ c.put_key.auto.keys ∙ reached_keys
+    (old c.before.before.before.before.before.before.before.before.before.before.before.before)
 
 returns-2 : tie.Need-returns
 unfolding store_reset reset_block_key consulted old

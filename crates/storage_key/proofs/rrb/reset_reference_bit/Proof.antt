@@ -24,7 +24,8 @@ stage c = reset_reference_bit c.args.call
 abbrev table : tie.After-segment_table-table → Asked entry stage
 unfolding reset_reference_bit
 table c =
-    asks c.before.before.before.before.before.before.before _ _ (begin (entry c.before.before.before.before.before.before.before) (stage c.before.before.before.before.before.before.before)) c.segment_table-table.result c.args.storage.now
+    let start = c.before.before.before.before.before.before.before in
+    asks start _ _ (begin (entry start) (stage start)) c.segment_table-table.result c.args.storage.now
     c.segment_table-table.new.keys
     (fresh _ _
     (simp (c.places.ensures, c.assists_control.ensures) at c.segment_table-table.ensures))
@@ -91,7 +92,8 @@ put-swap-word-requires c κs =
 same-length-8 : tie.Need-shape_of-keys-then-page
 unfolding reset_reference_bit table second halfword way page
 same-length-8 c =
-    c.put_swap_word.auto.keys ∙ reached_keys (page c.before.before.before.before.before.before.before.before.before.before.before)
+    c.put_swap_word.auto.keys ∙ reached_keys
+    (page c.before.before.before.before.before.before.before.before.before.before.before)
 
 returns-4 : tie.Need-returns-then-page
 unfolding reset_reference_bit store_reset table second halfword way page

@@ -24,8 +24,9 @@ stage c = set_block_key c.args.call c.args.page
 abbrev consulted : tie.After-consult_key-consulted → Asked entry stage
 unfolding set_block_key
 consulted c =
+    let start = c.before.before.before.before in
     let s = c.args.storage.now in
-    asks c.before.before.before.before _ _ (begin (entry c.before.before.before.before) (stage c.before.before.before.before)) c.consult_key-consulted.result s c.consult_key-consulted.new.keys
+    asks start _ _ (begin (entry start) (stage start)) c.consult_key-consulted.result s c.consult_key-consulted.new.keys
     (fresh _ _ (c.consult_key-consulted.ensures s))
 
 returns : tie.Need-returns-in_default
@@ -48,7 +49,9 @@ put-key-requires c κs =
 returns-2 : tie.Need-returns
 unfolding store_swap_word set_block_key consulted
 returns-2 c =
-    let here = given (consulted c.before.before.before.before.before.before.before.before.before.before.before.before.before.before.before.before.before.before) c.in-Value.is in
+    let earlier = c.before.before.before.before.before.before.before.before.before.before.before.before in
+    let here = given (consulted
+    earlier.before.before.before.before.before.before) c.in-Value.is in
     let a = here.start.args in
     let swap = swap_with a.page (word 24 30 (key_word a.call) * 2) (bits 8 5 6 c.in-Value.old) in
     let first = simp (c.new_key.ensures, c.key_word.ensures) at

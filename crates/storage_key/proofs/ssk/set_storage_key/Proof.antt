@@ -20,7 +20,8 @@ stage c = set_storage_key c.args.call
 abbrev table : tie.After-segment_table-table → Asked entry stage
 unfolding set_storage_key
 table c =
-    asks c.before.before.before.before.before.before.before.before _ _ (begin (entry c.before.before.before.before.before.before.before.before) (stage c.before.before.before.before.before.before.before.before)) c.segment_table-table.result c.args.storage.now
+    let start = c.before.before.before.before.before.before.before.before in
+    asks start _ _ (begin (entry start) (stage start)) c.segment_table-table.result c.args.storage.now
     c.segment_table-table.new.keys
     (fresh _ _
     (simp (c.steps.ensures, c.assists_keys.ensures) at c.segment_table-table.ensures))
@@ -62,7 +63,8 @@ put-swap-word-requires c κs =
 same-length-6 : tie.Need-shape_of-keys-then-page
 unfolding set_storage_key table way page
 same-length-6 c =
-    c.put_swap_word.auto.keys ∙ reached_keys (page c.before.before.before.before.before.before.before.before.before.before)
+    c.put_swap_word.auto.keys ∙ reached_keys
+    (page c.before.before.before.before.before.before.before.before.before.before)
 
 returns-3 : tie.Need-returns-then-page
 unfolding set_storage_key store_swap_word table way page

@@ -18,7 +18,8 @@ stage c = page_of c.args.numbers c.args.format c.args.segment c.args.at
 abbrev fetched : tie.After-page_entry-entry → Asked entry stage
 unfolding page_of
 fetched c =
-    asks c.before.before.before.before _ _ (begin (entry c.before.before.before.before) (stage c.before.before.before.before)) c.page_entry-entry.result c.args.storage.now
+    let start = c.before.before.before.before in
+    asks start _ _ (begin (entry start) (stage start)) c.page_entry-entry.result c.args.storage.now
     c.page_entry-entry.new.keys (fresh _ _ c.page_entry-entry.ensures)
 
 returns : tie.Need-returns-in_default

@@ -18,13 +18,15 @@ stage c = segment_table c.args.assists c.args.numbers c.args.guest
 returns : tie.Need-returns-then-not-assists
 unfolding segment_table
 returns c =
-    stops _ _ _ (begin (entry c.before.before.before) (stage c.before.before.before)) (ap not c.if-not-assists.true)
+    let start = c.before.before.before in
+    stops _ _ _ (begin (entry start) (stage start)) (ap not c.if-not-assists.true)
 
 -- step 2: MICRSEG
 abbrev field : tie.After-micblok_word-field → Asked entry stage
 unfolding segment_table
 field c =
-    asks c.before.before.before.before.before _ _ (pass _ _ _ (begin (entry c.before.before.before.before.before) (stage c.before.before.before.before.before)) (ap not c.if-not-assists.false))
+    let start = c.before.before.before.before.before in
+    asks start _ _ (pass _ _ _ (begin (entry start) (stage start)) (ap not c.if-not-assists.false))
     c.micblok_word-field.result c.args.storage.now c.micblok_word-field.new.keys
     (fresh _ _ c.micblok_word-field.ensures)
 

@@ -17,7 +17,8 @@ stage c = swap_word_at c.args.numbers c.args.format c.args.segment c.args.at
 abbrev field : tie.After-control_word-field → Asked entry stage
 unfolding swap_word_at
 field c =
-    asks c.before.before.before.before.before.before _ _ (begin (entry c.before.before.before.before.before.before) (stage c.before.before.before.before.before.before)) c.control_word-field.result c.args.storage.now
+    let start = c.before.before.before.before.before.before in
+    asks start _ _ (begin (entry start) (stage start)) c.control_word-field.result c.args.storage.now
     c.control_word-field.new.keys
     (fresh _ _ (simp (c.difference-place.ensures, c.page_table.ensures) at c.control_word-field.ensures))
 

@@ -17,7 +17,8 @@ loop-i-preserved c =
     let g = c.args.guest in
     let i = l.i in
     let sixteen : length g.general ≡ 16 = search rules in
-    let element = get_or-drop 2 (left g) i 0 ∙ ap (λ n. get_or (left g) n 0) (let e : 2 + i ≡ i + 2 = omega arith in e) in
+    let element = get_or-drop 2 (left g) i 0 ∙ ap (λ n. get_or (left g) n 0)
+    (let e : 2 + i ≡ i + 2 = omega arith in e) in
     let next : i + 1 + 2 ≡ i + 2 + 1 = omega arith in
     let turn = copy_turn l.words (left g) (i + 2) (omega arith) (omega arith) l.invariant.2 in (
       omega arith,

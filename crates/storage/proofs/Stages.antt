@@ -1,12 +1,14 @@
 -- A stage of the code beside the reading program that it follows: what is left to do at a place, and what a call or a
 -- test says there. So a proof names each place once, and the facts that hold there by what they mean.
 --
--- How to read such a proof. For each function the checker makes a record for each place of its code (`rt dev NAME
--- --generated DIR` writes them): `tie.Start` has the arguments, `tie.After-f` what the call of `f` gave, `tie.Then1`
--- and `tie.Else1` are a branch, and `.before` leads from a place to the one before it. It asks for a `Need` at some of
--- them; most are found by `search needs`; `Need-returns`, `Need-returns-2` and so on ask for the promise at a return.
--- A proof goes along the code: what it has asked at a call (`Asked`), which hands on an ending at the return below the
--- call (`handed`, `ended_with`) or gives a value (`given`), and what it has tested (`Tested`), which stops or passes.
+-- How to read such a proof. For each function the checker makes a record for each place of its code (`rt check
+-- --generated DIR --start NAME` writes them): `tie.Start` has the arguments, `tie.After-f` what the call of `f` gave
+-- (`tie.After-f-x` under `let x`), `tie.Then-t` and `tie.Else-t` are a branch by the test t, and `tie.In-V` is an arm.
+-- A place has the fields of those before it too, and `.before` leads to the place before it. It asks for a `Need` at
+-- some of them; most are found by `search rules`; `Need-returns`, `Need-returns-in_default` and so on ask for the
+-- promise at a return. A proof goes along the code: what it has asked at a call (`Asked`), which hands on an ending
+-- at the return below the call (`handed`, `ended_with`) or gives a value (`given`), and what it has tested (`Tested`),
+-- which stops or passes.
 use Rattle.std.proofs.Common.{◌≡◌, ℕ, Bool, true, false, List, length, sym, ap, ◌∙◌}
 use Rattle.rules.specs.declared.endings.Ending.{Ending}
 use Rattle.rules.specs.Machine.{Machine}

@@ -15,8 +15,8 @@ abbrev call : tie.Start → Call
 call c = let a = c.args in record { guest = a.guest; first = a.first; installed = a.installed }
 
 -- the table's mark
-program-requires : tie.Need-program-concluded-requires
-program-requires c κs =
+program-concluded-requires : tie.Need-program-concluded-requires
+program-concluded-requires c κs =
     ap (λ o. o.assisted) c.operation_of-operation.ensures
     ∙ ap begins_assisted c.operation_byte.ensures
 
@@ -44,7 +44,7 @@ attempt_spec =
     (tie.spec
     (λ c κs. search rules)
     (λ c κs. search rules)
-    program-requires
+    program-concluded-requires
     (λ c κs. search rules)
     (λ c. search rules)
     (λ c. search rules)

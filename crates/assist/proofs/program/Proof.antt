@@ -25,9 +25,9 @@ storage c =
     let start = c.before.before.before.before in
     tests start _ _ _ (begin (entry start) (stage start)) c.is_wrong_storage.result c.is_wrong_storage.ensures
 
-returns : tie.Need-returns-then-is_wrong_storage
+returns-then-is_wrong_storage : tie.Need-returns-then-is_wrong_storage
 unfolding admitted storage
-returns c = stopped_with _ (storage c.before) refl c.if-is_wrong_storage.true
+returns-then-is_wrong_storage c = stopped_with _ (storage c.before) refl c.if-is_wrong_storage.true
 
 -- 11
 abbrev keys : tie.After-is_wrong_keys → Tested entry stage
@@ -36,9 +36,9 @@ keys c =
     let here = passed (storage c.before.before) c.if-is_wrong_storage.false in
     tests here.start _ _ _ here.runs c.is_wrong_keys.result c.is_wrong_keys.ensures
 
-returns-2 : tie.Need-returns-then-is_wrong_keys
+returns-then-is_wrong_keys : tie.Need-returns-then-is_wrong_keys
 unfolding admitted storage keys
-returns-2 c = stopped_with _ (keys c.before) refl c.if-is_wrong_keys.true
+returns-then-is_wrong_keys c = stopped_with _ (keys c.before) refl c.if-is_wrong_keys.true
 
 -- 12
 abbrev odd : tie.After-is_odd → Tested entry stage
@@ -47,9 +47,9 @@ odd c =
     let here = passed (keys c.before.before) c.if-is_wrong_keys.false in
     tests here.start _ _ _ here.runs c.is_odd.result c.is_odd.ensures
 
-returns-3 : tie.Need-returns-then-is_odd
+returns-then-is_odd : tie.Need-returns-then-is_odd
 unfolding admitted storage keys odd
-returns-3 c = stopped_with _ (odd c.before) refl c.if-is_odd.true
+returns-then-is_odd c = stopped_with _ (odd c.before) refl c.if-is_odd.true
 
 -- 13
 abbrev assisted : tie.After-is_assisted → Tested entry stage
@@ -59,9 +59,9 @@ assisted c =
     tests here.start _ _ _ here.runs (not c.is_assisted.result)
     (ap not c.is_assisted.ensures)
 
-returns-4 : tie.Need-returns-then-not-is_assisted
+returns-then-not-is_assisted : tie.Need-returns-then-not-is_assisted
 unfolding admitted storage keys odd assisted
-returns-4 c = stopped_with _ (assisted c.before) refl (ap not c.if-not-is_assisted.true)
+returns-then-not-is_assisted c = stopped_with _ (assisted c.before) refl (ap not c.if-not-is_assisted.true)
 
 -- 9
 abbrev mode : tie.After-is_wrong_mode → Tested entry stage
@@ -70,14 +70,14 @@ mode c =
     let here = passed (assisted c.before.before) (ap not c.if-not-is_assisted.false) in
     tests here.start _ _ _ here.runs c.is_wrong_mode.result c.is_wrong_mode.ensures
 
-returns-5 : tie.Need-returns-then-is_wrong_mode
+returns-then-is_wrong_mode : tie.Need-returns-then-is_wrong_mode
 unfolding admitted storage keys odd assisted mode
-returns-5 c = stopped_with _ (mode c.before) refl c.if-is_wrong_mode.true
+returns-then-is_wrong_mode c = stopped_with _ (mode c.before) refl c.if-is_wrong_mode.true
 
 -- and then the instruction
-returns-6 : tie.Need-returns
+returns : tie.Need-returns
 unfolding admitted storage keys odd assisted mode
-returns-6 c =
+returns c =
     let here = passed (mode c.before.before.before.before.before.before.before.before) c.if-is_wrong_mode.false in
     continues c.instruction.result c.instruction.new.storage
     c.instruction.new.keys here.runs c.instruction.ensures
@@ -87,16 +87,16 @@ program_spec =
     tie.close
     (tie.spec
     (λ c κs. search rules)
-    returns
+    returns-then-is_wrong_storage
     (λ c κs. search rules)
-    returns-2
+    returns-then-is_wrong_keys
     (λ c κs. search rules)
-    returns-3
+    returns-then-is_odd
     (λ c κs. search rules)
-    returns-4
+    returns-then-not-is_assisted
     (λ c κs. search rules)
-    returns-5
+    returns-then-is_wrong_mode
     (λ c κs. search rules)
     (λ c. search rules)
     (λ c. search rules)
-    returns-6)
+    returns)

@@ -7,13 +7,14 @@ use borrow.Author.Rules.{rules}
 use Rattle.trail.proofs.write.Statement.{statement}
 use Rattle.trail.proofs.write.Tie as tie
 
-returns : tie.Need-returns-then-buffer-lt-TRAILER_BYTES
+returns-then-buffer-lt-TRAILER_BYTES : tie.Need-returns-then-buffer-lt-TRAILER_BYTES
 unfolding write
-returns c = numbered (simp (c.answered.ensures, lt-ltb _ _ c.if-buffer-lt-TRAILER_BYTES.true))
+returns-then-buffer-lt-TRAILER_BYTES c = numbered (simp
+    (c.answered.ensures, lt-ltb _ _ c.if-buffer-lt-TRAILER_BYTES.true))
 
-returns-2 : tie.Need-returns-then-not-trailer_found
+returns-then-not-trailer_found : tie.Need-returns-then-not-trailer_found
 unfolding write
-returns-2 c =
+returns-then-not-trailer_found c =
     let missing = sym c.trailer_found.ensures ∙ c.if-not-trailer_found.true in
     numbered (simp (c.answered-then-not-trailer_found.ensures, le-ltb _ _ c.if-buffer-lt-TRAILER_BYTES.false, missing))
 
@@ -28,21 +29,21 @@ add-requires c κs =
     let r = room _ a.held (sym c.has_room.ensures ∙ c.if-has_room.true) in
     (r.fits, r.low)
 
-returns-3 : tie.Need-returns-then-has_room
+returns-then-has_room : tie.Need-returns-then-has_room
 unfolding write
-returns-3 c =
+returns-then-has_room c =
     let seen = sym c.has_room.ensures ∙ c.if-has_room.true in
     numbered (simp (le-ltb _ _ c.if-buffer-lt-TRAILER_BYTES.false, found c.before.before.before.before.before, seen)
     c.add.ensures)
 
-turn-away-requires : tie.Need-turn_away-requires
-turn-away-requires c κs =
+turn_away-requires : tie.Need-turn_away-requires
+turn_away-requires c κs =
     let a = c.args in
     found_whole a.buffer.now a.held (found c.before.before)
 
-returns-4 : tie.Need-returns
+returns : tie.Need-returns
 unfolding write
-returns-4 c =
+returns c =
     let seen = sym c.has_room.ensures ∙ c.if-has_room.false in
     numbered (simp (le-ltb _ _ c.if-buffer-lt-TRAILER_BYTES.false, found c.before.before.before.before.before, seen)
     c.turn_away.ensures)
@@ -52,15 +53,15 @@ write_spec =
     tie.close
     (tie.spec
     (λ c κs. search rules)
-    returns
+    returns-then-buffer-lt-TRAILER_BYTES
     (λ c κs. search rules)
     (λ c κs. search rules)
     (λ c. search rules)
-    returns-2
+    returns-then-not-trailer_found
     (λ c κs. search rules)
     add-requires
     (λ c. search rules)
-    returns-3
-    turn-away-requires
+    returns-then-has_room
+    turn_away-requires
     (λ c. search rules)
-    returns-4)
+    returns)

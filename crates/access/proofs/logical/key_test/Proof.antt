@@ -29,17 +29,17 @@ protected s c =
     let here = given (consulted s c.before.before.before.before) c.in-Value.is in
     tests here.start _ _ _ here.runs (not c.passes.result) (ap not c.passes.ensures)
 
-returns : tie.Need-returns-in_default
+returns-in_default : tie.Need-returns-in_default
 unfolding key_test consulted
-returns c = λ s. handed (consulted s c.before.before.before) c.in_default.is
+returns-in_default c = λ s. handed (consulted s c.before.before.before) c.in_default.is
 
-returns-2 : tie.Need-returns-then-passes
+returns-then-passes : tie.Need-returns-then-passes
 unfolding key_test consulted protected
-returns-2 c = λ s. settles _ (passed (protected s c.before) (ap not c.if-passes.true)).runs
+returns-then-passes c = λ s. settles _ (passed (protected s c.before) (ap not c.if-passes.true)).runs
 
-returns-3 : tie.Need-returns
+returns : tie.Need-returns
 unfolding key_test consulted protected
-returns-3 c = λ s. stopped (protected s c.before) (ap not c.if-passes.false)
+returns c = λ s. stopped (protected s c.before) (ap not c.if-passes.false)
 
 pub key_test_spec : {M : Type 1} → statement M
 key_test_spec =
@@ -49,9 +49,9 @@ key_test_spec =
     (λ c. search rules)
     (λ c. search rules)
     (λ c. search rules)
-    returns
+    returns-in_default
     (λ c κs. search rules)
     (λ c. search rules)
-    returns-2
+    returns-then-passes
     (λ c. search rules)
-    returns-3)
+    returns)

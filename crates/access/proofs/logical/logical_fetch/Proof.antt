@@ -22,13 +22,13 @@ tested c =
     asks start _ _ (begin (entry start) (stage start)) c.fetch_access-tested.result c.args.storage.now
     c.fetch_access-tested.new.keys (fresh _ _ c.fetch_access-tested.ensures)
 
-returns : tie.Need-returns-in_default
+returns-in_default : tie.Need-returns-in_default
 unfolding logical_fetch tested
-returns c = handed (tested c.before.before.before) c.in_default.is
+returns-in_default c = handed (tested c.before.before.before) c.in_default.is
 
-returns-2 : tie.Need-returns
+returns : tie.Need-returns
 unfolding logical_fetch tested
-returns-2 c =
+returns c =
     let here = given (tested c.before.before.before.before.before.before.before.before) c.in-Value.is in
     last_after _ here.runs c.fetch.result c.after.result here.start.args.storage.now
     c.fetch.new.keys c.after.ensures c.fetch.ensures
@@ -41,8 +41,8 @@ logical_fetch_spec =
     (λ c. search rules)
     (λ c. search rules)
     (λ c. search rules)
-    returns
+    returns-in_default
     (λ c κs. search rules)
     (λ c κs. search rules)
     (λ c. search rules)
-    returns-2)
+    returns)

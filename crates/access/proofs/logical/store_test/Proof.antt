@@ -21,13 +21,13 @@ low c =
     let start = c.before.before.before in
     tests start _ _ _ (begin (entry start) (stage start)) c.protects_low.result c.protects_low.ensures
 
-returns : tie.Need-returns-then-protects_low
+returns-then-protects_low : tie.Need-returns-then-protects_low
 unfolding store_test low
-returns c = stopped (low c.before) c.if-protects_low.true
+returns-then-protects_low c = stopped (low c.before) c.if-protects_low.true
 
-returns-2 : tie.Need-returns
+returns : tie.Need-returns
 unfolding store_test low
-returns-2 c =
+returns c =
     let here = passed (low c.before.before.before.before.before) c.if-protects_low.false in
     fresh _ _ c.store_access.ensures ∙ sym here.runs.so
 
@@ -36,7 +36,7 @@ store_test_spec =
     tie.close
     (tie.spec
     (λ c κs. search rules)
-    returns
+    returns-then-protects_low
     (λ c κs. search rules)
     (λ c. search rules)
-    returns-2)
+    returns)

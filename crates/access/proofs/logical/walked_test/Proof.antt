@@ -19,11 +19,11 @@ module _ (p : Steps ℕ) (m : Machine) (s : List ℕ) where
   abbrev found : (c : tie.Start) → told c.args.walked s c.args.keys.now ≡ seen p m → Asked entry stage
   found c f = asks c _ _ (begin m (stage c)) c.args.walked s c.args.keys.now (fresh p m f)
 
-returns : tie.Need-returns-in_default
-returns c = λ p m s f. handed (found p m s c.before.before f) c.in_default.is
+returns-in_default : tie.Need-returns-in_default
+returns-in_default c = λ p m s f. handed (found p m s c.before.before f) c.in_default.is
 
-returns-2 : tie.Need-returns
-returns-2 c =
+returns : tie.Need-returns
+returns c =
     λ p m s f.
     let here = given (found p m s c.before.before.before.before.before.before.before f) c.in-Value.is in
     last_after _ here.runs c.key_test.result c.after.result s c.key_test.new.keys
@@ -35,8 +35,8 @@ walked_test_spec =
     (tie.spec
     (λ c. search rules)
     (λ c. search rules)
-    returns
+    returns-in_default
     (λ c κs. search rules)
     (λ c κs. search rules)
     (λ c. search rules)
-    returns-2)
+    returns)

@@ -30,21 +30,21 @@ module _ (s ks : List ℕ) (p : Steps ℕ) (m : Machine) where
       let here = found c.before.before h in
       reached here.start (rejected _ _ _ here.runs (sym c.is_invalid.ensures ∙ c.if-is_invalid.false))
 
-returns : tie.Need-returns-then-is_invalid
+returns-then-is_invalid : tie.Need-returns-then-is_invalid
 unfolding page_verdict
-returns c =
+returns-then-is_invalid c =
     λ s ks p m h. settles _
     (chosen _ _ _ (found s ks p m c.before.before h).runs (sym c.is_invalid.ensures ∙ c.if-is_invalid.true))
 
-returns-2 : tie.Need-returns-then-is_malformed
+returns-then-is_malformed : tie.Need-returns-then-is_malformed
 unfolding page_verdict valid
-returns-2 c =
+returns-then-is_malformed c =
     λ s ks p m h. settles _
     (chosen _ _ _ (valid s ks p m c.before.before h).runs (sym c.is_malformed.ensures ∙ c.if-is_malformed.true))
 
-returns-3 : tie.Need-returns
+returns : tie.Need-returns
 unfolding page_verdict valid
-returns-3 c =
+returns c =
     λ s ks p m h. simp c.real_address.ensures
     (settles _
     (rejected _ _ _ (valid s ks p m c.before.before.before h).runs (sym c.is_malformed.ensures
@@ -55,8 +55,8 @@ page_verdict_spec =
     tie.close
     (tie.spec
     (λ c κs. search rules)
-    returns
+    returns-then-is_invalid
     (λ c κs. search rules)
-    returns-2
+    returns-then-is_malformed
     (λ c κs. search rules)
-    returns-3)
+    returns)

@@ -22,15 +22,15 @@ fetched c =
     asks start _ _ (begin (entry start) (stage start)) (fetched_as c.item.result a.missing) a.storage.now
     c.item.new.keys (fresh _ _ (simp c.page_entry_at-place.ensures at (c.item.ensures a.missing)))
 
-returns : tie.Need-returns-in_default
+returns-in_default : tie.Need-returns-in_default
 unfolding page_walk fetched
-returns c =
+returns-in_default c =
     let call = fetched c.before.before.before in
     ended call (ap (λ i. fetched_as i call.start.args.missing) c.in_default.is)
 
-returns-2 : tie.Need-returns
+returns : tie.Need-returns
 unfolding page_walk
-returns-2 c =
+returns c =
     let a = c.args in
     let s = a.storage.now in
     let ks = c.item.new.keys in
@@ -47,7 +47,7 @@ page_walk_spec =
     (λ c. search rules)
     (λ c. search rules)
     (λ c. search rules)
-    returns
+    returns-in_default
     (λ c κs. search rules)
     (λ c. search rules)
-    returns-2)
+    returns)

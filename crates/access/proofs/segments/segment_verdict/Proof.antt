@@ -36,28 +36,29 @@ module _ (s ks : List ℕ) (p : Steps ℕ) (m : Machine) where
       let here = valid c.before h in
       reached here.start (rejected _ _ _ here.runs (simp (eq-eqb _ _ c.if-entry-ne0.false)))
 
-returns : tie.Need-returns-then-entry-eq1
+returns-then-entry-eq1 : tie.Need-returns-then-entry-eq1
 unfolding segment_verdict
-returns c = λ s ks p m h. settles _ (chosen _ _ _ (found s ks p m c.before h).runs (eq-eqb _ _ c.if-entry-eq1.true))
+returns-then-entry-eq1 c = λ s ks p m h. settles _ (chosen _ _ _ (found s ks p m c.before h).runs
+    (eq-eqb _ _ c.if-entry-eq1.true))
 
-returns-2 : tie.Need-returns-then-entry-ne0
+returns-then-entry-ne0 : tie.Need-returns-then-entry-ne0
 unfolding segment_verdict valid
-returns-2 c =
+returns-then-entry-ne0 c =
     λ s ks p m h. settles _
     (chosen _ _ _ (valid s ks p m c.before h).runs (simp (ne_eqb _ _ c.if-entry-ne0.true)))
 
 -- step 4
-returns-3 : tie.Need-returns-then-is_beyond_pages
+returns-then-is_beyond_pages : tie.Need-returns-then-is_beyond_pages
 unfolding segment_verdict valid formed
-returns-3 c =
+returns-then-is_beyond_pages c =
     λ s ks p m h. simp c.page_entry_at-beyond.ensures
     (settles _
     (chosen _ _ _ (formed s ks p m c.before.before.before h).runs (sym c.is_beyond_pages.ensures
     ∙ c.if-is_beyond_pages.true)))
 
-returns-4 : tie.Need-returns
+returns : tie.Need-returns
 unfolding segment_verdict valid formed
-returns-4 c =
+returns c =
     λ s ks p m h. settles _
     (rejected _ _ _ (formed s ks p m c.before.before h).runs (sym c.is_beyond_pages.ensures
     ∙ c.if-is_beyond_pages.false))
@@ -66,9 +67,9 @@ pub segment_verdict_spec : {M : Type 1} → statement M
 segment_verdict_spec =
     tie.close
     (tie.spec
-    returns
-    returns-2
+    returns-then-entry-eq1
+    returns-then-entry-ne0
     (λ c κs. search rules)
     (λ c κs. search rules)
-    returns-3
-    returns-4)
+    returns-then-is_beyond_pages
+    returns)

@@ -15,9 +15,9 @@ abbrev stage : tie.Start → Steps Walk
 stage c = segment_walk (entry_of 4 c.args.missing) c.args.format c.args.table c.args.at
 
 -- step 2
-returns : tie.Need-returns-then-is_beyond_segments
+returns-then-is_beyond_segments : tie.Need-returns-then-is_beyond_segments
 unfolding segment_walk
-returns c =
+returns-then-is_beyond_segments c =
     let start = c.before.before.before.before.before in
     simp c.segment_entry_at-place.ensures
     (settles _
@@ -42,16 +42,16 @@ fetched c =
     c.item.new.keys
     (fresh _ _ (simp c.segment_entry_at-place.ensures at (c.item.ensures a.missing)))
 
-returns-2 : tie.Need-returns-in_default
+returns-in_default : tie.Need-returns-in_default
 unfolding segment_walk long fetched
-returns-2 c =
+returns-in_default c =
     let call = fetched c.before.before.before in
     ended call (ap (λ i. fetched_as i call.start.args.missing) c.in_default.is)
 
 -- steps 3 and 4
-returns-3 : tie.Need-returns
+returns : tie.Need-returns
 unfolding segment_walk long
-returns-3 c =
+returns c =
     let here = long c.before.before.before.before.before.before in
     let a = here.start.args in
     let s = a.storage.now in
@@ -68,12 +68,12 @@ segment_walk_spec =
     (tie.spec
     (λ c κs. search rules)
     (λ c κs. search rules)
-    returns
+    returns-then-is_beyond_segments
     (λ c κs. search rules)
     (λ c. search rules)
     (λ c. search rules)
     (λ c. search rules)
-    returns-2
+    returns-in_default
     (λ c κs. search rules)
     (λ c. search rules)
-    returns-3)
+    returns)

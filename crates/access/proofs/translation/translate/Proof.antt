@@ -22,9 +22,9 @@ stage c = translate c.args.cr0 c.args.cr1 c.args.at
 abbrev unknown : Ending
 unknown = Interruption TranslationSpecification
 
-returns : tie.Need-returns-in_default
+returns-in_default : tie.Need-returns-in_default
 unfolding translate
-returns c =
+returns-in_default c =
     let start = c.before.before.before.before in
     let m = entry start in
     unformed unknown _ _ (begin m (stage start)) c.format_of.result (c.format_of.ensures unknown m)
@@ -53,14 +53,14 @@ segment c =
     (walk_ended (exception a.at) c.segment_walk.result c.excepted-segment.result s ks _ _ c.excepted-segment.ensures
     c.segment_walk.ensures))
 
-returns-2 : tie.Need-returns-in_default-segment
+returns-in_default-segment : tie.Need-returns-in_default-segment
 unfolding translate table_walk known segment
-returns-2 c = handed (segment c.before) c.in_default-segment.is
+returns-in_default-segment c = handed (segment c.before) c.in_default-segment.is
 
 -- steps 5 and 6: the real address
-returns-3 : tie.Need-returns
+returns : tie.Need-returns
 unfolding translate table_walk known segment
-returns-3 c =
+returns c =
     let here = given (segment c.before.before.before.before.before.before.before) c.in-Value.is in
     let a = here.start.args in
     let s = a.storage.now in
@@ -76,15 +76,15 @@ translate_spec =
     (λ c κs. search rules)
     (λ c. search rules)
     (λ c. search rules)
-    returns
+    returns-in_default
     (λ c κs. search rules)
     (λ c κs. search rules)
     (λ c. search rules)
     (λ c. search rules)
     (λ c. search rules)
-    returns-2
+    returns-in_default-segment
     (λ c κs. search rules)
     (λ c κs. search rules)
     (λ c κs. search rules)
     (λ c. search rules)
-    returns-3)
+    returns)

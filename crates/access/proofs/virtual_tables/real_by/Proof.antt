@@ -29,14 +29,14 @@ segment c =
     (walk_ended (λ x. refuse) c.segment_walk.result c.or_refuse-found.result s ks _ _ c.or_refuse-found.ensures
     (simp c.real_format-format.ensures at c.segment_walk.ensures)))
 
-returns : tie.Need-returns-in_default
+returns-in_default : tie.Need-returns-in_default
 unfolding real_by table_walk segment
-returns c = handed (segment c.before) c.in_default.is
+returns-in_default c = handed (segment c.before) c.in_default.is
 
 -- the real address
-returns-2 : tie.Need-returns
+returns : tie.Need-returns
 unfolding real_by table_walk segment
-returns-2 c =
+returns c =
     let here = given (segment c.before.before.before.before.before.before.before) c.in-Value.is in
     let s = here.start.args.storage.now in
     let ks = c.page_walk.new.keys in
@@ -54,9 +54,9 @@ real_by_spec =
     (λ c. search rules)
     (λ c. search rules)
     (λ c. search rules)
-    returns
+    returns-in_default
     (λ c κs. search rules)
     (λ c κs. search rules)
     (λ c κs. search rules)
     (λ c. search rules)
-    returns-2)
+    returns)

@@ -25,14 +25,14 @@ real c =
     asks start _ _ (begin (entry start) (stage start)) c.real_by-found.result c.args.storage.now
     c.real_by-found.new.keys (fresh _ _ c.real_by-found.ensures)
 
-returns : tie.Need-returns-in_default
+returns-in_default : tie.Need-returns-in_default
 unfolding through_real real
-returns c = handed (real c.before.before.before) c.in_default.is
+returns-in_default c = handed (real c.before.before.before) c.in_default.is
 
 -- the item there
-returns-2 : tie.Need-returns
+returns : tie.Need-returns
 unfolding through_real real
-returns-2 c =
+returns c =
     let here = given (real c.before.before.before.before.before.before.before.before) c.in-Value.is in
     last_after _ here.runs c.fetch.result c.after.result here.start.args.storage.now
     c.fetch.new.keys c.after.ensures c.fetch.ensures
@@ -45,8 +45,8 @@ through_real_spec =
     (λ c. search rules)
     (λ c. search rules)
     (λ c. search rules)
-    returns
+    returns-in_default
     (λ c κs. search rules)
     (λ c κs. search rules)
     (λ c. search rules)
-    returns-2)
+    returns)

@@ -25,16 +25,16 @@ read c =
     c.through_real-read.new.keys
     (fresh _ _ (simp c.page_entry_at-place.ensures at c.through_real-read.ensures))
 
-returns : tie.Need-returns-in_default
+returns-in_default : tie.Need-returns-in_default
 unfolding page_walk read
-returns c =
+returns-in_default c =
     stopped_read c.as_walk.result (read c.before.before.before.before) c.as_walk.ensures
     c.in_default.is
 
 -- steps 22 and 23
-returns-2 : tie.Need-returns
+returns : tie.Need-returns
 unfolding page_walk
-returns-2 c =
+returns c =
     let s = c.args.storage.now in
     let ks = c.through_real-read.new.keys in
     simp c.page_entry_at-place.ensures at
@@ -51,7 +51,7 @@ virtual_page_spec =
     (λ c. search rules)
     (λ c κs. search rules)
     (λ c. search rules)
-    returns
+    returns-in_default
     (λ c κs. search rules)
     (λ c. search rules)
-    returns-2)
+    returns)

@@ -17,9 +17,9 @@ abbrev stage : tie.Start → Steps Walk
 stage c = segment_walk (through_real c.args.rseg 5 6 4) c.args.format c.args.table c.args.at
 
 -- step 6
-returns : tie.Need-returns-then-is_beyond_segments
+returns-then-is_beyond_segments : tie.Need-returns-then-is_beyond_segments
 unfolding segment_walk
-returns c =
+returns-then-is_beyond_segments c =
     let start = c.before.before.before.before.before in
     simp c.segment_entry_at-place.ensures
     (settles _
@@ -43,16 +43,16 @@ read c =
     c.through_real-read.new.keys
     (fresh _ _ (simp c.segment_entry_at-place.ensures at c.through_real-read.ensures))
 
-returns-2 : tie.Need-returns-in_default
+returns-in_default : tie.Need-returns-in_default
 unfolding segment_walk long read
-returns-2 c =
+returns-in_default c =
     stopped_read c.as_walk.result (read c.before.before.before.before) c.as_walk.ensures
     c.in_default.is
 
 -- steps 13 to 15
-returns-3 : tie.Need-returns
+returns : tie.Need-returns
 unfolding segment_walk long
-returns-3 c =
+returns c =
     let here = long c.before.before.before.before.before.before in
     let s = here.start.args.storage.now in
     let ks = c.through_real-read.new.keys in
@@ -68,13 +68,13 @@ virtual_segment_spec =
     (tie.spec
     (λ c κs. search rules)
     (λ c κs. search rules)
-    returns
+    returns-then-is_beyond_segments
     (λ c κs. search rules)
     (λ c. search rules)
     (λ c. search rules)
     (λ c κs. search rules)
     (λ c. search rules)
-    returns-2
+    returns-in_default
     (λ c κs. search rules)
     (λ c. search rules)
-    returns-3)
+    returns)

@@ -11,9 +11,9 @@ abbrev entry : tie.Start → Machine
 entry c = machine c.args.storage.now c.args.keys.now
 
 -- steps 16 to 23, where the segment entry was found
-returns : tie.Need-returns-in-Found
+returns-in-Found : tie.Need-returns-in-Found
 unfolding virtual_walk table_walk
-returns c =
+returns-in-Found c =
     let s = c.args.storage.now in
     let runs =
     went_on _ _ (entry c.before.before.before.before.before.before.before.before.before.before.before.before)
@@ -22,16 +22,16 @@ returns c =
     walk_after _ runs c.virtual_page.result c.after.result s c.virtual_page.new.keys
     c.after.ensures c.virtual_page.ensures
 
-returns-2 : tie.Need-returns-in-Fault
+returns-in-Fault : tie.Need-returns-in-Fault
 unfolding virtual_walk table_walk
-returns-2 c =
+returns-in-Fault c =
     faulted _ _ (entry c.before.before.before.before.before.before.before) c.virtual_segment-segment.result
     c.args.storage.now
     c.virtual_segment-segment.new.keys c.virtual_segment-segment.ensures c.in-Fault.is
 
-returns-3 : tie.Need-returns-in-Stopped
+returns-in-Stopped : tie.Need-returns-in-Stopped
 unfolding virtual_walk table_walk
-returns-3 c =
+returns-in-Stopped c =
     stopped_short _ _ (entry c.before.before.before.before.before.before.before) c.virtual_segment-segment.result
     c.args.storage.now
     c.virtual_segment-segment.new.keys c.virtual_segment-segment.ensures c.in-Stopped.is
@@ -47,8 +47,8 @@ virtual_walk_spec =
     (λ c. search rules)
     (λ c. search rules)
     (λ c. search rules)
-    returns
+    returns-in-Found
     (λ c. search rules)
-    returns-2
+    returns-in-Fault
     (λ c. search rules)
-    returns-3)
+    returns-in-Stopped)

@@ -25,9 +25,9 @@ assisted c =
     tests start _ _ _ (begin (entry start) (stage start)) (not c.assists_control.result)
     (ap not c.assists_control.ensures)
 
-returns : tie.Need-returns-then-not-assists_control
+returns-then-not-assists_control : tie.Need-returns-then-not-assists_control
 unfolding control_block assisted
-returns c = stopped (assisted c.before) (ap not c.if-not-assists_control.true)
+returns-then-not-assists_control c = stopped (assisted c.before) (ap not c.if-not-assists_control.true)
 
 -- step 2: MICCREG
 abbrev field : tie.After-micblok_word-field → Asked entry stage
@@ -37,13 +37,13 @@ field c =
     asks here.start _ _ here.runs c.micblok_word-field.result here.start.args.storage.now
     c.micblok_word-field.new.keys (fresh _ _ c.micblok_word-field.ensures)
 
-returns-2 : tie.Need-returns-in_default
+returns-in_default : tie.Need-returns-in_default
 unfolding control_block assisted field
-returns-2 c = handed (field c.before.before.before) c.in_default.is
+returns-in_default c = handed (field c.before.before.before) c.in_default.is
 
-returns-3 : tie.Need-returns
+returns : tie.Need-returns
 unfolding control_block assisted field
-returns-3 c =
+returns c =
     simp c.address_in.ensures
     (settles _ (given (field c.before.before.before.before) c.in-Value.is).runs)
 
@@ -52,12 +52,12 @@ control_block_spec =
     tie.close
     (tie.spec
     (λ c κs. search rules)
-    returns
+    returns-then-not-assists_control
     (λ c κs. search rules)
     (λ c. search rules)
     (λ c. search rules)
     (λ c. search rules)
-    returns-2
+    returns-in_default
     (λ c κs. search rules)
     (λ c. search rules)
-    returns-3)
+    returns)

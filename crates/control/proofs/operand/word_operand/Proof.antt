@@ -24,9 +24,9 @@ second c =
     asks start _ _ (begin (entry start) (stage start)) c.second_halfword-second.result c.args.storage.now
     c.second_halfword-second.new.keys (fresh _ _ c.second_halfword-second.ensures)
 
-returns : tie.Need-returns-in_default
+returns-in_default : tie.Need-returns-in_default
 unfolding word_operand second
-returns c = handed (second c.before.before.before) c.in_default.is
+returns-in_default c = handed (second c.before.before.before) c.in_default.is
 
 abbrev halfword : tie.After-effective-at → Reached entry stage
 unfolding word_operand second
@@ -34,15 +34,15 @@ halfword c =
     given (second c.before.before.before.before) c.in-Value.is
 
 -- step 4
-returns-2 : tie.Need-returns-then-at-ne0
+returns-then-at-ne0 : tie.Need-returns-then-at-ne0
 unfolding word_operand second halfword
-returns-2 c =
+returns-then-at-ne0 c =
     stops _ _ _ (halfword c.before).runs
     (simp (ne_eqb _ _ (simp c.effective-at.ensures at c.if-at-ne0.true)))
 
-returns-3 : tie.Need-returns
+returns : tie.Need-returns
 unfolding word_operand second halfword
-returns-3 c =
+returns c =
     let at = c.effective-at.ensures in
     simp at (settles _ (pass _ _ _ (halfword c.before).runs (simp (eq-eqb _ _ (simp at at c.if-at-ne0.false)))))
 
@@ -54,9 +54,9 @@ word_operand_spec =
     (λ c. search rules)
     (λ c. search rules)
     (λ c. search rules)
-    returns
+    returns-in_default
     (λ c κs. search rules)
     (λ c. search rules)
-    returns-2
+    returns-then-at-ne0
     (λ c. search rules)
-    returns-3)
+    returns)

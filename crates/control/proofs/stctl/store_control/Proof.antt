@@ -33,9 +33,9 @@ block c =
     asks start _ _ (begin (entry start) (stage start)) c.control_block-field.result c.args.storage.now
     c.control_block-field.new.keys (fresh _ _ c.control_block-field.ensures)
 
-returns : tie.Need-returns-in_default
+returns-in_default : tie.Need-returns-in_default
 unfolding store_control block
-returns c =
+returns-in_default c =
     let asked = block c.before.before.before.before in
     ended_with c.ending.result asked c.ending.ensures
     c.in_default.is
@@ -49,9 +49,9 @@ operand c =
     here.start.args.storage.now c.word_operand.new.keys c.after-operand.ensures
     c.word_operand.ensures
 
-returns-2 : tie.Need-returns-in_default-operand
+returns-in_default-operand : tie.Need-returns-in_default-operand
 unfolding store_control block operand
-returns-2 c =
+returns-in_default-operand c =
     let asked = operand c.before.before in
     ended_with c.ending-in_default-operand.result asked c.ending-in_default-operand.ensures
     c.in_default-operand.is
@@ -66,6 +66,7 @@ counted : (c : tie.After-register_count-n) → c.register_count-n.result ≡ wan
 unfolding store_control block operand address
 counted c = simp (c.r1-first.ensures, c.r2.ensures) at c.register_count-n.ensures.0
 
+-- step 5: the registers
 abbrev registers : tie.After-after-last → AskedWords entry stage
 unfolding store_control block operand address
 registers c =
@@ -74,14 +75,14 @@ registers c =
     c.after-last.result here.start.args.storage.now c.virtual_registers-registers.new.keys c.after-last.ensures
     (simp (counted c.before.before.before.before.before, c.r1-first.ensures) at c.virtual_registers-registers.ensures.0)
 
-same-length-6 : tie.Need-shape_of-keys-in_default-last
+shape_of-keys-in_default-last : tie.Need-shape_of-keys-in_default-last
 unfolding store_control block operand address
-same-length-6 c =
+shape_of-keys-in_default-last c =
     c.virtual_registers-registers.auto.keys ∙ reached_keys (address c.before.before.before.before.before.before.before)
 
-returns-3 : tie.Need-returns-in_default-last
+returns-in_default-last : tie.Need-returns-in_default-last
 unfolding store_control block operand address registers
-returns-3 c =
+returns-in_default-last c =
     let asked = registers c.before.before in
     ended_without c.ending-in_default-last.result asked c.ending-in_default-last.ensures
     c.in_default-last.is
@@ -91,6 +92,7 @@ unfolding store_control block operand address registers
 values c =
     given_words (registers c.before.before.before.before.before.before) c.in-Value-last.is
 
+-- and the operand words
 abbrev words : tie.After-after-end → AskedWords entry stage
 unfolding store_control block operand address registers values
 words c =
@@ -100,14 +102,14 @@ words c =
     (simp (counted c.before.before.before.before.before.before.before.before.before.before.before) at
     c.operand_words-words.ensures.0)
 
-same-length-8 : tie.Need-shape_of-keys-in_default-end
+shape_of-keys-in_default-end : tie.Need-shape_of-keys-in_default-end
 unfolding store_control block operand address registers values
-same-length-8 c =
+shape_of-keys-in_default-end c =
     c.operand_words-words.auto.keys ∙ reached_keys (values c.before.before)
 
-returns-4 : tie.Need-returns-in_default-end
+returns-in_default-end : tie.Need-returns-in_default-end
 unfolding store_control block operand address registers values words
-returns-4 c =
+returns-in_default-end c =
     let asked = words c.before.before in
     ended_without c.ending-in_default-end.result asked c.ending-in_default-end.ensures
     c.in_default-end.is
@@ -126,14 +128,14 @@ abbrev reals : tie.After-store_words → Reached entry stage
 unfolding store_control block operand address registers values words
 reals c = given_words (words c.before.before.before.before.before.before) c.in-Value-end.is
 
-same-length-10 : tie.Need-shape_of-keys
+shape_of-keys : tie.Need-shape_of-keys
 unfolding store_control block operand address registers values words reals
-same-length-10 c =
+shape_of-keys c =
     c.store_words.auto.keys ∙ reached_keys (reals c.before.before.before.before.before)
 
-returns-5 : tie.Need-returns
+returns : tie.Need-returns
 unfolding store_control block operand address registers values words reals
-returns-5 c =
+returns c =
     let earlier = c.before.before.before.before.before.before.before.before.before.before.before.before in
     let here = reals c.before.before.before.before.before in
     let to = c.operand_words-words in
@@ -157,7 +159,7 @@ store_control_spec =
     (λ c κs. search rules)
     (λ c. search rules)
     (λ c. search rules)
-    returns
+    returns-in_default
     (λ c κs. search rules)
     (λ c κs. search rules)
     (λ c. search rules)
@@ -165,7 +167,7 @@ store_control_spec =
     (λ c κs. search rules)
     (λ c. search rules)
     (λ c. search rules)
-    returns-2
+    returns-in_default-operand
     (λ c κs. search rules)
     (λ c κs. search rules)
     (λ c κs. search rules)
@@ -175,18 +177,18 @@ store_control_spec =
     (λ c. search rules)
     (λ c κs. search rules)
     (λ c. search rules)
-    same-length-6
-    returns-3
+    shape_of-keys-in_default-last
+    returns-in_default-last
     (λ c κs. search rules)
     (λ c κs. search rules)
     (λ c. search rules)
     (λ c. search rules)
     (λ c κs. search rules)
     (λ c. search rules)
-    same-length-8
-    returns-4
+    shape_of-keys-in_default-end
+    returns-in_default-end
     (λ c κs. search rules)
     (λ c κs. search rules)
     (λ c. search rules)
-    same-length-10
-    returns-5)
+    shape_of-keys
+    returns)

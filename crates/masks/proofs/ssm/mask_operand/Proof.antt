@@ -18,9 +18,9 @@ abbrev stage : tie.Start → Steps ℕ
 stage c = mask_operand c.args.guest
 
 -- step 1
-returns : tie.Need-returns-then-guest-ne2
+returns-then-guest-ne2 : tie.Need-returns-then-guest-ne2
 unfolding mask_operand
-returns c =
+returns-then-guest-ne2 c =
     let start = c.before.before.before.before in
     stops _ _ _ (begin (entry start) (stage start)) (simp (ne_eqb _ _ c.if-guest-ne2.true))
 
@@ -33,9 +33,9 @@ creg c =
     c.micblok_word-field.result c.args.storage.now c.micblok_word-field.new.keys
     (fresh _ _ c.micblok_word-field.ensures)
 
-returns-2 : tie.Need-returns-in_default
+returns-in_default : tie.Need-returns-in_default
 unfolding mask_operand creg
-returns-2 c = handed (creg c.before.before.before) c.in_default.is
+returns-in_default c = handed (creg c.before.before.before) c.in_default.is
 
 -- step 3: virtual control register 0
 abbrev word : tie.After-after-word → Asked entry stage
@@ -46,18 +46,18 @@ word c =
     here.start.args.storage.now c.control_word.new.keys c.after-word.ensures
     (simp c.address_in-ecblok.ensures at c.control_word.ensures)
 
-returns-3 : tie.Need-returns-in_default-word
+returns-in_default-word : tie.Need-returns-in_default-word
 unfolding mask_operand creg word
-returns-3 c = handed (word c.before) c.in_default-word.is
+returns-in_default-word c = handed (word c.before) c.in_default-word.is
 
 abbrev control : tie.In-Value-word → Reached entry stage
 unfolding mask_operand creg word
 control c = given (word c.before) c.in-Value-word.is
 
 -- step 4
-returns-4 : tie.Need-returns-then-control-eq1
+returns-then-control-eq1 : tie.Need-returns-then-control-eq1
 unfolding mask_operand creg word control
-returns-4 c = stops _ _ _ (control c.before).runs (eq-eqb _ _ c.if-control-eq1.true)
+returns-then-control-eq1 c = stops _ _ _ (control c.before).runs (eq-eqb _ _ c.if-control-eq1.true)
 
 -- step 5: the second halfword
 abbrev second : tie.After-after-second → Asked entry stage
@@ -68,23 +68,23 @@ second c =
     c.second_halfword.result c.after-second.result here.start.args.storage.now
     c.second_halfword.new.keys c.after-second.ensures c.second_halfword.ensures
 
-returns-5 : tie.Need-returns-in_default-second
+returns-in_default-second : tie.Need-returns-in_default-second
 unfolding mask_operand creg word control second
-returns-5 c = handed (second c.before) c.in_default-second.is
+returns-in_default-second c = handed (second c.before) c.in_default-second.is
 
 -- step 6: the operand byte
 abbrev halfword : tie.In-Value-second → Reached entry stage
 unfolding mask_operand creg word control second
 halfword c = given (second c.before) c.in-Value-second.is
 
-same-length-5 : tie.Need-shape_of-keys
+shape_of-keys : tie.Need-shape_of-keys
 unfolding mask_operand creg word control second halfword
-same-length-5 c =
+shape_of-keys c =
     c.logical_fetch.auto.keys ∙ reached_keys (halfword c.before.before.before.before.before.before)
 
-returns-6 : tie.Need-returns
+returns : tie.Need-returns
 unfolding mask_operand creg word control second halfword
-returns-6 c =
+returns c =
     let here = halfword c.before.before.before.before.before.before in
     last_after _ here.runs c.logical_fetch.result c.after.result here.start.args.storage.now
     c.logical_fetch.new.keys c.after.ensures
@@ -94,29 +94,29 @@ pub mask_operand_spec : {M : Type 1} → statement M
 mask_operand_spec =
     tie.close
     (tie.spec
-    returns
+    returns-then-guest-ne2
     (λ c κs. search rules)
     (λ c. search rules)
     (λ c. search rules)
     (λ c. search rules)
-    returns-2
+    returns-in_default
     (λ c κs. search rules)
     (λ c κs. search rules)
     (λ c κs. search rules)
     (λ c. search rules)
     (λ c. search rules)
     (λ c. search rules)
-    returns-3
+    returns-in_default-word
     (λ c. search rules)
-    returns-4
+    returns-then-control-eq1
     (λ c κs. search rules)
     (λ c κs. search rules)
     (λ c. search rules)
     (λ c. search rules)
     (λ c. search rules)
-    returns-5
+    returns-in_default-second
     (λ c κs. search rules)
     (λ c κs. search rules)
     (λ c κs. search rules)
-    same-length-5
-    returns-6)
+    shape_of-keys
+    returns)

@@ -24,9 +24,9 @@ field c =
     asks start _ _ (begin (entry start) (stage start)) c.micblok_word-field.result c.args.storage.now
     c.micblok_word-field.new.keys (fresh _ _ c.micblok_word-field.ensures)
 
-returns : tie.Need-returns-in_default
+returns-in_default : tie.Need-returns-in_default
 unfolding mask_target field
-returns c = handed (field c.before.before.before) c.in_default.is
+returns-in_default c = handed (field c.before.before.before) c.in_default.is
 
 abbrev vpsw : tie.In-Value → Reached entry stage
 unfolding mask_target field
@@ -43,9 +43,9 @@ halfword c =
     (waited c.control_halfword.result c.after-halfword.result _ s ks _ _ c.after-halfword.ensures
     (simp c.address_in-at.ensures at c.control_halfword.ensures))
 
-returns-2 : tie.Need-returns-in_default-halfword
+returns-in_default-halfword : tie.Need-returns-in_default-halfword
 unfolding mask_target field vpsw halfword
-returns-2 c = handed (halfword c.before) c.in_default-halfword.is
+returns-in_default-halfword c = handed (halfword c.before) c.in_default-halfword.is
 
 abbrev first : tie.In-Value-halfword → Reached entry stage
 unfolding mask_target field vpsw halfword
@@ -64,9 +64,10 @@ extended c =
       c.mask_in-old.ensures.0,
     ))
 
-returns-3 : tie.Need-returns-then-ec-mask_needs_expanded
+returns-then-ec-mask_needs_expanded : tie.Need-returns-then-ec-mask_needs_expanded
 unfolding mask_target field vpsw halfword first extended
-returns-3 c = simp c.expanded.ensures (stopped (extended c.before.before) c.if-ec-mask_needs_expanded.true)
+returns-then-ec-mask_needs_expanded c = simp c.expanded.ensures (stopped
+    (extended c.before.before) c.if-ec-mask_needs_expanded.true)
 
 -- and in the BC mode
 abbrev basic : tie.After-any_rises_pending → Tested entry stage
@@ -81,13 +82,13 @@ basic c =
       c.mask_in-old.ensures.0,
     ))
 
-returns-4 : tie.Need-returns-then-ec-any_rises_pending
+returns-then-ec-any_rises_pending : tie.Need-returns-then-ec-any_rises_pending
 unfolding mask_target field vpsw halfword first extended basic
-returns-4 c = stopped (basic c.before) c.if-ec-any_rises_pending.true
+returns-then-ec-any_rises_pending c = stopped (basic c.before) c.if-ec-any_rises_pending.true
 
-returns-5 : tie.Need-returns
+returns : tie.Need-returns
 unfolding mask_target field vpsw halfword first extended basic
-returns-5 c =
+returns c =
     simp c.address_in-at.ensures (settles _ (passed (basic c.before) c.if-ec-any_rises_pending.false).runs)
 
 pub mask_target_spec : {M : Type 1} → statement M
@@ -98,23 +99,23 @@ mask_target_spec =
     (λ c. search rules)
     (λ c. search rules)
     (λ c. search rules)
-    returns
+    returns-in_default
     (λ c κs. search rules)
     (λ c κs. search rules)
     (λ c κs. search rules)
     (λ c. search rules)
     (λ c. search rules)
     (λ c. search rules)
-    returns-2
+    returns-in_default-halfword
     (λ c κs. search rules)
     (λ c κs. search rules)
     (λ c κs. search rules)
     (λ c κs. search rules)
     (λ c κs. search rules)
     (λ c. search rules)
-    returns-3
+    returns-then-ec-mask_needs_expanded
     (λ c κs. search rules)
     (λ c. search rules)
-    returns-4
+    returns-then-ec-any_rises_pending
     (λ c. search rules)
-    returns-5)
+    returns)

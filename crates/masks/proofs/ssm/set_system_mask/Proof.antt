@@ -25,9 +25,9 @@ operand c =
     asks start _ _ (begin (entry start) (stage start)) c.mask_operand-operand.result c.args.storage.now
     c.mask_operand-operand.new.keys (fresh _ _ c.mask_operand-operand.ensures)
 
-returns : tie.Need-returns-in_default
+returns-in_default : tie.Need-returns-in_default
 unfolding set_system_mask operand
-returns c =
+returns-in_default c =
     let asked = operand c.before.before.before.before in
     ended_with c.ending.result asked c.ending.ensures
     c.in_default.is
@@ -40,24 +40,24 @@ target c =
     asks_after here.start _ _ here.runs c.mask_target.result c.after-target.result
     here.start.args.storage.now c.mask_target.new.keys c.after-target.ensures c.mask_target.ensures
 
-returns-2 : tie.Need-returns-in_default-target
+returns-in_default-target : tie.Need-returns-in_default-target
 unfolding set_system_mask operand target
-returns-2 c =
+returns-in_default-target c =
     let asked = target c.before.before in
     ended_with c.ending-in_default-target.result asked c.ending-in_default-target.ensures
     c.in_default-target.is
 
 -- step 10: the virtual PSW was fetched, so its first byte is there
-put-mask-requires : tie.Need-put_mask-requires
+put_mask-requires : tie.Need-put_mask-requires
 unfolding set_system_mask operand target
-put-mask-requires c κs =
+put_mask-requires c κs =
     let asked = target c.before.before.before in
     sure _ asked c.in-Value-target.is
     (mask_target-gives (length asked.left.storage) (length asked.left.keys) _ _)
 
-returns-3 : tie.Need-returns
+returns : tie.Need-returns
 unfolding set_system_mask operand target
-returns-3 c =
+returns c =
     let here = given (target c.before.before.before.before.before.before.before.before.before) c.in-Value-target.is in
     completes c.completed.result c.put_mask.new.storage c.put_mask.new.keys _
     here.runs c.completed.ensures c.put_mask.ensures
@@ -72,7 +72,7 @@ set_system_mask_spec =
     (λ c κs. search rules)
     (λ c. search rules)
     (λ c. search rules)
-    returns
+    returns-in_default
     (λ c κs. search rules)
     (λ c κs. search rules)
     (λ c. search rules)
@@ -80,9 +80,9 @@ set_system_mask_spec =
     (λ c κs. search rules)
     (λ c. search rules)
     (λ c. search rules)
-    returns-2
-    put-mask-requires
+    returns-in_default-target
+    put_mask-requires
     (λ c κs. search rules)
     (λ c. search rules)
     (λ c. search rules)
-    returns-3)
+    returns)

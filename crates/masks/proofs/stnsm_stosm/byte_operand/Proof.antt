@@ -26,14 +26,14 @@ second c =
     (fresh _ _ (refuses c.second_halfword.result c.or_refuse-second.result s ks _ _ c.or_refuse-second.ensures
     c.second_halfword.ensures))
 
-returns : tie.Need-returns-in_default
+returns-in_default : tie.Need-returns-in_default
 unfolding byte_operand second
-returns c = handed (second c.before) c.in_default.is
+returns-in_default c = handed (second c.before) c.in_default.is
 
 -- step 6: the store test
-returns-2 : tie.Need-returns
+returns : tie.Need-returns
 unfolding byte_operand second
-returns-2 c =
+returns c =
     let here = given (second c.before.before.before.before.before.before.before) c.in-Value.is in
     last_after _ here.runs c.store_test.result c.after.result here.start.args.storage.now
     c.store_test.new.keys c.after.ensures
@@ -48,9 +48,9 @@ byte_operand_spec =
     (λ c. search rules)
     (λ c. search rules)
     (λ c. search rules)
-    returns
+    returns-in_default
     (λ c κs. search rules)
     (λ c κs. search rules)
     (λ c κs. search rules)
     (λ c. search rules)
-    returns-2)
+    returns)

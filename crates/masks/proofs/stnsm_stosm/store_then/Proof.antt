@@ -44,9 +44,9 @@ assisted c =
     tests start _ _ _ (begin (entry start) (stage start)) (not c.assists_control.result)
     (ap not c.assists_control.ensures)
 
-returns : tie.Need-returns-then-not-assists_control
+returns-then-not-assists_control : tie.Need-returns-then-not-assists_control
 unfolding store_then assisted
-returns c =
+returns-then-not-assists_control c =
     let test = assisted c.before.before in
     stopped_with c.ending.result test c.ending.ensures (ap not c.if-not-assists_control.true)
 
@@ -58,13 +58,14 @@ field c =
     asks here.start _ _ here.runs c.micblok_word-field.result here.start.args.storage.now
     c.micblok_word-field.new.keys (fresh _ _ c.micblok_word-field.ensures)
 
-returns-2 : tie.Need-returns-in_default
+returns-in_default : tie.Need-returns-in_default
 unfolding store_then assisted field
-returns-2 c =
+returns-in_default c =
     let asked = field c.before.before.before.before in
     ended_with c.ending-in_default.result asked c.ending-in_default.ensures
     c.in_default.is
 
+-- step 3: the first halfword of the virtual PSW
 abbrev halfword : tie.After-after-halfword → Asked entry stage
 unfolding store_then assisted field
 halfword c =
@@ -73,9 +74,9 @@ halfword c =
     here.start.args.storage.now c.control_halfword.new.keys c.after-halfword.ensures
     (simp c.address_in-at.ensures at c.control_halfword.ensures)
 
-returns-3 : tie.Need-returns-in_default-halfword
+returns-in_default-halfword : tie.Need-returns-in_default-halfword
 unfolding store_then assisted field halfword
-returns-3 c =
+returns-in_default-halfword c =
     let asked = halfword c.before.before in
     ended_with c.ending-in_default-halfword.result asked c.ending-in_default-halfword.ensures
     c.in_default-halfword.is
@@ -104,13 +105,14 @@ expands c =
       changed c.before.before.before,
     ) at c.needs_expanded.ensures)
 
-same-length-6 : tie.Need-shape_of-keys-then-needs_expanded
+shape_of-keys-then-needs_expanded : tie.Need-shape_of-keys-then-needs_expanded
 unfolding store_then assisted field halfword first
-same-length-6 c = reached_keys (first c.before.before.before.before.before.before.before.before.before)
+shape_of-keys-then-needs_expanded c = reached_keys
+    (first c.before.before.before.before.before.before.before.before.before)
 
-returns-4 : tie.Need-returns-then-needs_expanded
+returns-then-needs_expanded : tie.Need-returns-then-needs_expanded
 unfolding store_then assisted field halfword first expands
-returns-4 c =
+returns-then-needs_expanded c =
     let asked = expands c.before.before.before in
     stopped_with c.ending-then-needs_expanded.result asked
     (simp c.expanded.ensures at c.ending-then-needs_expanded.ensures) c.if-needs_expanded.true
@@ -124,23 +126,23 @@ operand c =
     here.start.args.storage.now c.byte_operand.new.keys c.after-operand.ensures
     c.byte_operand.ensures
 
-same-length-8 : tie.Need-shape_of-keys-in_default-operand
+shape_of-keys-in_default-operand : tie.Need-shape_of-keys-in_default-operand
 unfolding store_then assisted field halfword first
-same-length-8 c =
+shape_of-keys-in_default-operand c =
     c.byte_operand.auto.keys ∙ reached_keys
     (first c.before.before.before.before.before.before.before.before.before.before.before.before.before.before)
 
-returns-5 : tie.Need-returns-in_default-operand
+returns-in_default-operand : tie.Need-returns-in_default-operand
 unfolding store_then assisted field halfword first expands operand
-returns-5 c =
+returns-in_default-operand c =
     let asked = operand c.before.before in
     ended_with c.ending-in_default-operand.result asked c.ending-in_default-operand.ensures
     c.in_default-operand.is
 
 -- step 7: the old mask, then the new one, where the first halfword was fetched
-put-mask-requires : tie.Need-put_mask-requires
+put_mask-requires : tie.Need-put_mask-requires
 unfolding store_then assisted field halfword
-put-mask-requires c κs =
+put_mask-requires c κs =
     let earlier = c.before.before.before.before.before.before.before.before.before.before.before.before in
     let asked = halfword earlier.before.before.before.before.before.before.before.before.before.before.before in
     let s = length asked.left.storage in
@@ -153,15 +155,15 @@ unfolding store_then assisted field halfword first expands operand
 real c =
     given (operand c.before.before.before.before) c.in-Value-operand.is
 
-same-length-10 : tie.Need-shape_of-keys
+shape_of-keys : tie.Need-shape_of-keys
 unfolding store_then assisted field halfword first expands operand real
-same-length-10 c =
+shape_of-keys c =
     c.put_mask.auto.keys ∙ c.store_byte.auto.keys ∙ reached_keys
     (real c.before.before.before.before.before.before.before.before.before.before.before.before)
 
-returns-6 : tie.Need-returns
+returns : tie.Need-returns
 unfolding store_then assisted field halfword first expands operand real
-returns-6 c =
+returns c =
     let earlier = c.before.before.before.before.before.before.before.before.before.before.before.before in
     let first = earlier.before.before.before.before.before.before.before.before.before.before.before.before.before in
     let here = real c.before.before.before.before.before.before.before.before.before.before.before.before in
@@ -181,14 +183,14 @@ store_then_spec =
     (tie.spec
     (λ c κs. search rules)
     (λ c κs. search rules)
-    returns
+    returns-then-not-assists_control
     (λ c κs. search rules)
     (λ c. search rules)
     (λ c. search rules)
     (λ c κs. search rules)
     (λ c. search rules)
     (λ c. search rules)
-    returns-2
+    returns-in_default
     (λ c κs. search rules)
     (λ c κs. search rules)
     (λ c κs. search rules)
@@ -197,7 +199,7 @@ store_then_spec =
     (λ c κs. search rules)
     (λ c. search rules)
     (λ c. search rules)
-    returns-3
+    returns-in_default-halfword
     (λ c κs. search rules)
     (λ c κs. search rules)
     (λ c κs. search rules)
@@ -207,19 +209,19 @@ store_then_spec =
     (λ c κs. search rules)
     (λ c κs. search rules)
     (λ c. search rules)
-    same-length-6
-    returns-4
+    shape_of-keys-then-needs_expanded
+    returns-then-needs_expanded
     (λ c κs. search rules)
     (λ c κs. search rules)
     (λ c. search rules)
     (λ c. search rules)
     (λ c κs. search rules)
     (λ c. search rules)
-    same-length-8
-    returns-5
+    shape_of-keys-in_default-operand
+    returns-in_default-operand
     (λ c κs. search rules)
-    put-mask-requires
+    put_mask-requires
     (λ c κs. search rules)
     (λ c. search rules)
-    same-length-10
-    returns-6)
+    shape_of-keys
+    returns)

@@ -26,9 +26,9 @@ gave c e =
     ap (λ w. told_walk w c.args.storage.now c.virtual_walk-walked.new.keys) (sym e)
     ∙ fresh _ _ c.virtual_walk-walked.ensures
 
-returns : tie.Need-returns-in-Found
+returns-in-Found : tie.Need-returns-in-Found
 unfolding load_by
-returns c =
+returns-in-Found c =
     let start = c.before.before.before.before.before.before.before.before.before in
     let m = entry start in
     let s = c.args.storage.now in
@@ -37,9 +37,9 @@ returns c =
     (goes _ _ (begin m (stage start)) (gave c.before.before.before.before.before c.in-Found.is)) c.answer_after.ensures
     (c.loaded.ensures s ks)
 
-returns-2 : tie.Need-returns-in-Fault
+returns-in-Fault : tie.Need-returns-in-Fault
 unfolding load_by
-returns-2 c =
+returns-in-Fault c =
     let start = c.before.before.before.before.before.before.before.before.before in
     let m = entry start in
     let s = c.args.storage.now in
@@ -49,9 +49,9 @@ returns-2 c =
     (gave c.before.before.before.before.before c.in-Fault.is)) c.answer_after-in-Fault.ensures
     (c.faulted.ensures s ks)
 
-returns-3 : tie.Need-returns-in-Stopped
+returns-in-Stopped : tie.Need-returns-in-Stopped
 unfolding load_by
-returns-3 c =
+returns-in-Stopped c =
     let start = c.before.before.before.before.before.before.before in
     ap finish (ends _ _ (begin (entry start) (stage start)) (gave c.before.before.before c.in-Stopped.is))
 
@@ -68,8 +68,8 @@ load_by_spec =
     (λ c κs. search rules)
     (λ c. search rules)
     (λ c. search rules)
-    returns
+    returns-in-Found
     (λ c. search rules)
-    returns-2
+    returns-in-Fault
     (λ c. search rules)
-    returns-3)
+    returns-in-Stopped)

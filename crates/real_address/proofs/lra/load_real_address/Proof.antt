@@ -25,9 +25,9 @@ assisted c =
     tests start _ _ _ (begin (entry start) (stage start)) (not c.assists_control.result)
     (ap not c.assists_control.ensures)
 
-returns : tie.Need-returns-then-not-assists_control
+returns-then-not-assists_control : tie.Need-returns-then-not-assists_control
 unfolding load_real_address assisted
-returns c = ap finish (stopped (assisted c.before) (ap not c.if-not-assists_control.true))
+returns-then-not-assists_control c = ap finish (stopped (assisted c.before) (ap not c.if-not-assists_control.true))
 
 -- step 2: MICRSEG
 abbrev table : tie.After-micblok_word-field_1 → Asked entry stage
@@ -37,9 +37,9 @@ table c =
     asks here.start _ _ here.runs c.micblok_word-field_1.result here.start.args.storage.now
     c.micblok_word-field_1.new.keys (fresh _ _ c.micblok_word-field_1.ensures)
 
-returns-2 : tie.Need-returns-in_default
+returns-in_default : tie.Need-returns-in_default
 unfolding load_real_address assisted table
-returns-2 c =
+returns-in_default c =
     ended_with c.ending.result (table c.before.before.before.before) c.ending.ensures
     c.in_default.is
 
@@ -52,16 +52,16 @@ block c =
     here.start.args.storage.now c.micblok_word.new.keys c.after-field_2.ensures
     c.micblok_word.ensures
 
-returns-3 : tie.Need-returns-in_default-field_2
+returns-in_default-field_2 : tie.Need-returns-in_default-field_2
 unfolding load_real_address assisted table block
-returns-3 c =
+returns-in_default-field_2 c =
     ended_with c.ending-in_default-field_2.result (block c.before.before) c.ending-in_default-field_2.ensures
     c.in_default-field_2.is
 
 -- from step 3
-returns-4 : tie.Need-returns
+returns : tie.Need-returns
 unfolding load_real_address assisted table block
-returns-4 c =
+returns c =
     let here = given (block c.before.before.before.before.before.before.before) c.in-Value-field_2.is in
     finishes c.load_through.result c.answer_after.result here.start.args.storage.now
     c.load_through.new.keys here.runs c.answer_after.ensures
@@ -72,22 +72,22 @@ load_real_address_spec =
     tie.close
     (tie.spec
     (λ c κs. search rules)
-    returns
+    returns-then-not-assists_control
     (λ c κs. search rules)
     (λ c. search rules)
     (λ c. search rules)
     (λ c κs. search rules)
     (λ c. search rules)
-    returns-2
+    returns-in_default
     (λ c κs. search rules)
     (λ c κs. search rules)
     (λ c. search rules)
     (λ c. search rules)
     (λ c κs. search rules)
     (λ c. search rules)
-    returns-3
+    returns-in_default-field_2
     (λ c κs. search rules)
     (λ c κs. search rules)
     (λ c κs. search rules)
     (λ c. search rules)
-    returns-4)
+    returns)

@@ -26,9 +26,9 @@ first c =
     asks start _ _ (begin (entry start) (stage start)) c.control_word-word_0.result c.args.storage.now
     c.control_word-word_0.new.keys (fresh _ _ c.control_word-word_0.ensures)
 
-returns : tie.Need-returns-in_default
+returns-in_default : tie.Need-returns-in_default
 unfolding load_through first
-returns c =
+returns-in_default c =
     ended_with c.ending.result (first c.before.before.before.before) c.ending.ensures
     c.in_default.is
 
@@ -41,9 +41,9 @@ second c =
     here.start.args.storage.now c.control_word.new.keys c.after-word_1.ensures
     (simp c.sum.ensures at c.control_word.ensures)
 
-returns-2 : tie.Need-returns-in_default-word_1
+returns-in_default-word_1 : tie.Need-returns-in_default-word_1
 unfolding load_through first second
-returns-2 c =
+returns-in_default-word_1 c =
     ended_with c.ending-in_default-word_1.result (second c.before.before) c.ending-in_default-word_1.ensures
     c.in_default-word_1.is
 
@@ -52,9 +52,9 @@ unfolding load_through first second
 registers c = given (second c.before) c.in-Value-word_1.is
 
 -- step 4
-returns-3 : tie.Need-returns-in_default-format_of
+returns-in_default-format_of : tie.Need-returns-in_default-format_of
 unfolding load_through first second registers
-returns-3 c =
+returns-in_default-format_of c =
     let here = registers c.before.before in
     ap finish
     (unformed refuse _ _ here.runs c.format_of.result (c.format_of.ensures refuse here.left)
@@ -77,14 +77,14 @@ halfword c =
     here.start.args.storage.now c.second_halfword.new.keys c.after-halfword.ensures
     c.second_halfword.ensures
 
-same-length-4 : tie.Need-shape_of-keys-in_default-halfword
+shape_of-keys-in_default-halfword : tie.Need-shape_of-keys-in_default-halfword
 unfolding load_through first second registers format
-same-length-4 c =
+shape_of-keys-in_default-halfword c =
     c.second_halfword.auto.keys ∙ reached_keys (format c.before.before.before.before.before.before.before)
 
-returns-4 : tie.Need-returns-in_default-halfword
+returns-in_default-halfword : tie.Need-returns-in_default-halfword
 unfolding load_through first second registers format halfword
-returns-4 c =
+returns-in_default-halfword c =
     ended_with c.ending-in_default-halfword.result (halfword c.before.before) c.ending-in_default-halfword.ensures
     c.in_default-halfword.is
 
@@ -94,14 +94,14 @@ operand c =
     given (halfword c.before.before.before.before.before) c.in-Value-halfword.is
 
 -- from step 6
-same-length-5 : tie.Need-shape_of-keys
+shape_of-keys : tie.Need-shape_of-keys
 unfolding load_through first second registers format halfword operand
-same-length-5 c =
+shape_of-keys c =
     c.load_by.auto.keys ∙ reached_keys (operand c.before.before.before)
 
-returns-5 : tie.Need-returns
+returns : tie.Need-returns
 unfolding load_through first second registers format halfword operand
-returns-5 c =
+returns c =
     let here = operand c.before.before.before in
     finishes c.load_by.result c.answer_after.result here.start.args.storage.now
     c.load_by.new.keys here.runs c.answer_after.ensures
@@ -116,7 +116,7 @@ load_through_spec =
     (λ c. search rules)
     (λ c κs. search rules)
     (λ c. search rules)
-    returns
+    returns-in_default
     (λ c κs. search rules)
     (λ c κs. search rules)
     (λ c κs. search rules)
@@ -124,22 +124,22 @@ load_through_spec =
     (λ c. search rules)
     (λ c κs. search rules)
     (λ c. search rules)
-    returns-2
+    returns-in_default-word_1
     (λ c κs. search rules)
     (λ c. search rules)
     (λ c. search rules)
     (λ c. search rules)
-    returns-3
+    returns-in_default-format_of
     (λ c κs. search rules)
     (λ c κs. search rules)
     (λ c. search rules)
     (λ c. search rules)
     (λ c κs. search rules)
-    same-length-4
-    returns-4
+    shape_of-keys-in_default-halfword
+    returns-in_default-halfword
     (λ c κs. search rules)
     (λ c κs. search rules)
     (λ c κs. search rules)
     (λ c κs. search rules)
-    same-length-5
-    returns-5)
+    shape_of-keys
+    returns)

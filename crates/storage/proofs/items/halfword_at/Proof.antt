@@ -18,23 +18,23 @@ small c =
     let r = below c.in-Of-byte_at.is c.byte_at-2.ensures.1 in
     omega arith
 
-returns : tie.Need-returns-in_default
-returns c =
+returns-in_default : tie.Need-returns-in_default
+returns-in_default c =
     (simp (halfword_joined, ← c.byte_at.ensures.0, c.in_default.is), omega arith)
 
-returns-2 : tie.Need-returns-in_default-byte_at
-returns-2 c =
+returns-in_default-byte_at : tie.Need-returns-in_default-byte_at
+returns-in_default-byte_at c =
     let l = c.byte_at.ensures.0 in
     (simp (halfword_joined, ← l, c.in-Of.is, ← second c.before, c.in_default-byte_at.is), omega arith)
 
-mul-t7 : tie.Need-overflow_mul-result
-mul-t7 c = omega (arith, small c)
+overflow_mul-result : tie.Need-overflow_mul-result
+overflow_mul-result c = omega (arith, small c)
 
-add-t8 : tie.Need-overflow_add-result
-add-t8 c = omega (arith, small c)
+overflow_add-result : tie.Need-overflow_add-result
+overflow_add-result c = omega (arith, small c)
 
-returns-3 : tie.Need-returns
-returns-3 c =
+returns : tie.Need-returns
+returns c =
     let l = c.byte_at.ensures.0 in (
       simp (halfword_joined, ← l, c.in-Of.is, ← second c.before, c.in-Of-byte_at.is),
       small c,
@@ -47,12 +47,12 @@ halfword_at_spec =
     (λ c κs. search rules)
     (λ c. search rules)
     (λ c. search rules)
-    returns
+    returns-in_default
     (λ c κs. search rules)
     (λ c κs. search rules)
     (λ c. search rules)
     (λ c. search rules)
-    returns-2
-    mul-t7
-    add-t8
-    returns-3)
+    returns-in_default-byte_at
+    overflow_mul-result
+    overflow_add-result
+    returns)

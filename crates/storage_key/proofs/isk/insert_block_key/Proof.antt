@@ -24,17 +24,17 @@ consulted c =
     asks start _ _ (begin (entry start) (stage start)) c.consult_key-consulted.result s c.consult_key-consulted.new.keys
     (fresh _ _ (c.consult_key-consulted.ensures s))
 
-returns : tie.Need-returns-in_default
+returns-in_default : tie.Need-returns-in_default
 unfolding insert_block_key consulted
-returns c =
+returns-in_default c =
     let asked = consulted c.before.before.before.before in
     ended_with c.ending.result asked c.ending.ensures
     c.in_default.is
 
 -- and steps 12 to 14
-returns-2 : tie.Need-returns
+returns : tie.Need-returns
 unfolding insert_block_key consulted
-returns-2 c =
+returns c =
     let here = given (consulted c.before.before.before.before.before.before.before.before) c.in-Value.is in
     let a = here.start.args in
     finishes c.insert_key.result c.answer_after.result a.storage.now
@@ -49,8 +49,8 @@ insert_block_key_spec =
     (λ c. search rules)
     (λ c κs. search rules)
     (λ c. search rules)
-    returns
+    returns-in_default
     (λ c κs. search rules)
     (λ c κs. search rules)
     (λ c. search rules)
-    returns-2)
+    returns)

@@ -26,9 +26,9 @@ field c =
     asks start _ _ (begin (entry start) (stage start)) c.micblok_word-field.result c.args.storage.now
     c.micblok_word-field.new.keys (fresh _ _ c.micblok_word-field.ensures)
 
-returns : tie.Need-returns-in_default
+returns-in_default : tie.Need-returns-in_default
 unfolding insert_key field
-returns c =
+returns-in_default c =
     let asked = field c.before.before.before.before in
     ended_with c.ending.result asked c.ending.ensures
     c.in_default.is
@@ -47,22 +47,22 @@ halfword c =
     here.start.args.storage.now c.control_halfword.new.keys c.after-halfword.ensures
     (simp c.address_in-psw_at.ensures at c.control_halfword.ensures)
 
-returns-2 : tie.Need-returns-in_default-halfword
+returns-in_default-halfword : tie.Need-returns-in_default-halfword
 unfolding insert_key field vpsw halfword
-returns-2 c =
+returns-in_default-halfword c =
     let asked = halfword c.before.before in
     ended_with c.ending-in_default-halfword.result asked c.ending-in_default-halfword.ensures
     c.in_default-halfword.is
 
 -- step 14
-same-length-3 : tie.Need-shape_of-keys
+shape_of-keys : tie.Need-shape_of-keys
 unfolding insert_key field vpsw
-same-length-3 c =
+shape_of-keys c =
     c.control_halfword.auto.keys ∙ reached_keys (vpsw c.before.before.before.before.before.before.before)
 
-returns-3 : tie.Need-returns
+returns : tie.Need-returns
 unfolding insert_key field vpsw halfword
-returns-3 c =
+returns c =
     let here = given (halfword c.before.before.before.before) c.in-Value-halfword.is in
     let a = here.start.args in
     let key = inserted_key (extended_in c.in-Value-halfword.first) (virtual_key a.page) a.marks in
@@ -81,7 +81,7 @@ insert_key_spec =
     (λ c. search rules)
     (λ c κs. search rules)
     (λ c. search rules)
-    returns
+    returns-in_default
     (λ c κs. search rules)
     (λ c. search rules)
     (λ c κs. search rules)
@@ -90,9 +90,9 @@ insert_key_spec =
     (λ c. search rules)
     (λ c κs. search rules)
     (λ c. search rules)
-    returns-2
+    returns-in_default-halfword
     (λ c κs. search rules)
     (λ c κs. search rules)
     (λ c κs. search rules)
-    same-length-3
-    returns-3)
+    shape_of-keys
+    returns)

@@ -26,9 +26,9 @@ table c =
     (fresh _ _
     (simp (c.places.ensures, c.assists_keys.ensures) at c.segment_table-table.ensures))
 
-returns : tie.Need-returns-in_default
+returns-in_default : tie.Need-returns-in_default
 unfolding insert_storage_key table
-returns c =
+returns-in_default c =
     let asked = table c.before.before.before.before in
     ended_with c.ending.result asked c.ending.ensures
     c.in_default.is
@@ -43,9 +43,9 @@ way c =
     (simp (c.places-2.ensures, c.address_word-at.ensures) at
     c.find_page.ensures)
 
-returns-2 : tie.Need-returns-in_default-found
+returns-in_default-found : tie.Need-returns-in_default-found
 unfolding insert_storage_key table way
-returns-2 c =
+returns-in_default-found c =
     let sought = way c.before.before in
     ended_on_way c.ending-in_default-found.result sought c.ending-in_default-found.ensures
     c.in_default-found.is
@@ -55,14 +55,14 @@ unfolding insert_storage_key table way
 page c = found (way c.before) c.in-Page.is
 
 -- step 11, the page is invalid: steps 12 to 14
-same-length-3 : tie.Need-shape_of-keys-then-page
+shape_of-keys-then-page : tie.Need-shape_of-keys-then-page
 unfolding insert_storage_key table way page
-same-length-3 c =
+shape_of-keys-then-page c =
     c.insert_key.auto.keys ∙ reached_keys (page c.before.before.before.before.before.before)
 
-returns-3 : tie.Need-returns-then-page
+returns-then-page : tie.Need-returns-then-page
 unfolding insert_storage_key table way page
-returns-3 c =
+returns-then-page c =
     let here = page c.before.before.before.before.before.before in
     let a = here.start.args in
     finishes c.insert_key.result c.answer_after.result a.storage.now
@@ -70,14 +70,14 @@ returns-3 c =
     c.insert_key.ensures
 
 -- it is valid: steps 11 to 14
-same-length-4 : tie.Need-shape_of-keys
+shape_of-keys : tie.Need-shape_of-keys
 unfolding insert_storage_key table way page
-same-length-4 c =
+shape_of-keys c =
     c.insert_block_key.auto.keys ∙ reached_keys (page c.before.before.before.before.before.before)
 
-returns-4 : tie.Need-returns
+returns : tie.Need-returns
 unfolding insert_storage_key table way page
-returns-4 c =
+returns c =
     let here = page c.before.before.before.before.before.before in
     let a = here.start.args in
     finishes c.insert_block_key.result c.answer_after-2.result a.storage.now
@@ -96,7 +96,7 @@ insert_storage_key_spec =
     (λ c. search rules)
     (λ c κs. search rules)
     (λ c. search rules)
-    returns
+    returns-in_default
     (λ c κs. search rules)
     (λ c κs. search rules)
     (λ c κs. search rules)
@@ -104,12 +104,12 @@ insert_storage_key_spec =
     (λ c. search rules)
     (λ c κs. search rules)
     (λ c. search rules)
-    returns-2
+    returns-in_default-found
     (λ c κs. search rules)
     (λ c κs. search rules)
-    same-length-3
-    returns-3
+    shape_of-keys-then-page
+    returns-then-page
     (λ c κs. search rules)
     (λ c κs. search rules)
-    same-length-4
-    returns-4)
+    shape_of-keys
+    returns)

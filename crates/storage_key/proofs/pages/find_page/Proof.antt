@@ -24,9 +24,9 @@ segment c =
     asks start _ _ (begin (entry start) (stage start)) c.segment_of-entry.result c.args.storage.now
     c.segment_of-entry.new.keys (fresh _ _ (simp c.format_in-format.ensures at c.segment_of-entry.ensures))
 
-returns : tie.Need-returns-in_default
+returns-in_default : tie.Need-returns-in_default
 unfolding find_page segment
-returns c =
+returns-in_default c =
     stopped_at c.stopped.result (segment c.before.before.before.before) c.stopped.ensures
     c.in_default.is
 
@@ -39,9 +39,9 @@ place c =
     here.start.args.storage.now c.swap_word_at.new.keys c.after-word_at.ensures
     (simp c.format_in-format.ensures at c.swap_word_at.ensures)
 
-returns-2 : tie.Need-returns-in_default-word_at
+returns-in_default-word_at : tie.Need-returns-in_default-word_at
 unfolding find_page segment place
-returns-2 c =
+returns-in_default-word_at c =
     stopped_at c.stopped-in_default-word_at.result (place c.before.before) c.stopped-in_default-word_at.ensures
     c.in_default-word_at.is
 
@@ -54,9 +54,9 @@ word c =
     here.start.args.storage.now c.control_word.new.keys c.after-word.ensures
     c.control_word.ensures
 
-returns-3 : tie.Need-returns-in_default-word
+returns-in_default-word : tie.Need-returns-in_default-word
 unfolding find_page segment place word
-returns-3 c =
+returns-in_default-word c =
     stopped_at c.stopped-in_default-word.result (word c.before.before) c.stopped-in_default-word.ensures
     c.in_default-word.is
 
@@ -73,26 +73,26 @@ entered c =
     here.start.args.storage.now c.page_of.new.keys c.after-page_entry.ensures
     (simp c.format_in-format.ensures at c.page_of.ensures)
 
-same-length-4 : tie.Need-shape_of-keys-in_default-page_entry
+shape_of-keys-in_default-page_entry : tie.Need-shape_of-keys-in_default-page_entry
 unfolding find_page segment place word swap
-same-length-4 c =
+shape_of-keys-in_default-page_entry c =
     c.page_of.auto.keys ∙ reached_keys (swap c.before.before.before.before.before)
 
-returns-4 : tie.Need-returns-in_default-page_entry
+returns-in_default-page_entry : tie.Need-returns-in_default-page_entry
 unfolding find_page segment place word swap entered
-returns-4 c =
+returns-in_default-page_entry c =
     stopped_at c.stopped-in_default-page_entry.result (entered c.before.before) c.stopped-in_default-page_entry.ensures
     c.in_default-page_entry.is
 
 -- and the page
-same-length-5 : tie.Need-shape_of-keys
+shape_of-keys : tie.Need-shape_of-keys
 unfolding find_page segment place word swap
-same-length-5 c =
+shape_of-keys c =
     c.page_of.auto.keys ∙ reached_keys (swap c.before.before.before.before.before)
 
-returns-5 : tie.Need-returns
+returns : tie.Need-returns
 unfolding find_page segment place word swap entered
-returns-5 c =
+returns c =
     simp (c.found_page.ensures, c.format_in-format.ensures)
     (settles _ (given (entered c.before.before) c.in-Value-page_entry.is).runs)
 
@@ -106,28 +106,28 @@ find_page_spec =
     (λ c. search rules)
     (λ c κs. search rules)
     (λ c. search rules)
-    returns
+    returns-in_default
     (λ c κs. search rules)
     (λ c κs. search rules)
     (λ c. search rules)
     (λ c. search rules)
     (λ c κs. search rules)
     (λ c. search rules)
-    returns-2
+    returns-in_default-word_at
     (λ c κs. search rules)
     (λ c κs. search rules)
     (λ c. search rules)
     (λ c. search rules)
     (λ c κs. search rules)
     (λ c. search rules)
-    returns-3
+    returns-in_default-word
     (λ c κs. search rules)
     (λ c κs. search rules)
     (λ c. search rules)
     (λ c. search rules)
     (λ c κs. search rules)
-    same-length-4
-    returns-4
+    shape_of-keys-in_default-page_entry
+    returns-in_default-page_entry
     (λ c κs. search rules)
-    same-length-5
-    returns-5)
+    shape_of-keys
+    returns)

@@ -31,17 +31,17 @@ consulted c =
     asks start _ _ (begin (entry start) (stage start)) c.consult_key-consulted.result s c.consult_key-consulted.new.keys
     (fresh _ _ (c.consult_key-consulted.ensures s))
 
-returns : tie.Need-returns-in_default
+returns-in_default : tie.Need-returns-in_default
 unfolding reset_block_key consulted
-returns c =
+returns-in_default c =
     let asked = consulted c.before.before.before.before in
     ended_with c.ending.result asked c.ending.ensures
     c.in_default.is
 
 -- the new key: it was consulted, so it is there
-put-key-requires : tie.Need-put_key-requires
+put_key-requires : tie.Need-put_key-requires
 unfolding reset_block_key consulted
-put-key-requires c κs =
+put_key-requires c κs =
     let asked = consulted c.before.before.before.before.before in
     let there = sure _ asked c.in-Value.is
     (consult_key-gives (length asked.left.storage) (length asked.left.keys) Whole _ _) in
@@ -53,15 +53,15 @@ old c =
     given (consulted c.before.before.before.before.before.before) c.in-Value.is
 
 -- and step 13
-same-length-3 : tie.Need-shape_of-keys
+shape_of-keys : tie.Need-shape_of-keys
 unfolding reset_block_key consulted old
-same-length-3 c =
+shape_of-keys c =
     c.put_swap_word.auto.keys ∙ c.put_key.auto.keys ∙ reached_keys
     (old c.before.before.before.before.before.before.before.before.before.before.before.before)
 
-returns-2 : tie.Need-returns
+returns : tie.Need-returns
 unfolding store_reset reset_block_key consulted old
-returns-2 c =
+returns c =
     let here = old c.before.before.before.before.before.before.before.before.before.before.before.before in
     let a = here.start.args in
     let marks = bits 8 5 6 c.in-Value.old in
@@ -82,13 +82,13 @@ reset_block_key_spec =
     (λ c. search rules)
     (λ c κs. search rules)
     (λ c. search rules)
-    returns
+    returns-in_default
     (λ c κs. search rules)
-    put-key-requires
+    put_key-requires
     (λ c κs. search rules)
     (λ c κs. search rules)
     (λ c κs. search rules)
     (λ c κs. search rules)
     (λ c. search rules)
-    same-length-3
-    returns-2)
+    shape_of-keys
+    returns)

@@ -30,9 +30,9 @@ table c =
     (fresh _ _
     (simp (c.places.ensures, c.assists_control.ensures) at c.segment_table-table.ensures))
 
-returns : tie.Need-returns-in_default
+returns-in_default : tie.Need-returns-in_default
 unfolding reset_reference_bit table
-returns c =
+returns-in_default c =
     let asked = table c.before.before.before.before in
     ended_with c.ending.result asked c.ending.ensures
     c.in_default.is
@@ -46,9 +46,9 @@ second c =
     here.start.args.storage.now c.second_halfword.new.keys c.after-halfword.ensures
     c.second_halfword.ensures
 
-returns-2 : tie.Need-returns-in_default-halfword
+returns-in_default-halfword : tie.Need-returns-in_default-halfword
 unfolding reset_reference_bit table second
-returns-2 c =
+returns-in_default-halfword c =
     let asked = second c.before.before in
     ended_with c.ending-in_default-halfword.result asked c.ending-in_default-halfword.ensures
     c.in_default-halfword.is
@@ -67,14 +67,14 @@ way c =
     here.start.args.storage.now c.find_page.new.keys c.after-found.ensures
     (simp (c.effective.ensures, c.places-2.ensures) at c.find_page.ensures)
 
-same-length-6 : tie.Need-shape_of-keys-in_default-found
+shape_of-keys-in_default-found : tie.Need-shape_of-keys-in_default-found
 unfolding reset_reference_bit table second halfword
-same-length-6 c =
+shape_of-keys-in_default-found c =
     c.find_page.auto.keys ∙ reached_keys (halfword c.before.before.before.before.before)
 
-returns-3 : tie.Need-returns-in_default-found
+returns-in_default-found : tie.Need-returns-in_default-found
 unfolding reset_reference_bit table second halfword way
-returns-3 c =
+returns-in_default-found c =
     let sought = way c.before.before in
     ended_on_way c.ending-in_default-found.result sought c.ending-in_default-found.ensures
     c.in_default-found.is
@@ -84,20 +84,20 @@ unfolding reset_reference_bit table second halfword way
 page c = found (way c.before) c.in-Page.is
 
 -- step 12, the page is invalid: step 13 alone
-put-swap-word-requires : tie.Need-put_swap_word-requires
+put_swap_word-requires : tie.Need-put_swap_word-requires
 unfolding reset_reference_bit table second halfword way
-put-swap-word-requires c κs =
+put_swap_word-requires c κs =
     swap_there (way c.before.before.before.before.before) c.in-Page.is _ _ _ refl
 
-same-length-8 : tie.Need-shape_of-keys-then-page
+shape_of-keys-then-page : tie.Need-shape_of-keys-then-page
 unfolding reset_reference_bit table second halfword way page
-same-length-8 c =
+shape_of-keys-then-page c =
     c.put_swap_word.auto.keys ∙ reached_keys
     (page c.before.before.before.before.before.before.before.before.before.before.before)
 
-returns-4 : tie.Need-returns-then-page
+returns-then-page : tie.Need-returns-then-page
 unfolding reset_reference_bit store_reset table second halfword way page
-returns-4 c =
+returns-then-page c =
     let here = page c.before.before.before.before.before.before.before.before.before.before.before in
     let g = here.start.args.call.guest in
     let p = c.in-Page.page in
@@ -107,19 +107,19 @@ returns-4 c =
     (simp c.reset_word.ensures at c.put_swap_word.ensures)
 
 -- it is valid: steps 12 and 13
-reset-block-key-requires : tie.Need-reset_block_key-requires
+reset_block_key-requires : tie.Need-reset_block_key-requires
 unfolding reset_reference_bit table second halfword way
-reset-block-key-requires c κs =
+reset_block_key-requires c κs =
     swap_there (way c.before.before.before.before) c.in-Page.is _ _ _ refl
 
-same-length-10 : tie.Need-shape_of-keys
+shape_of-keys : tie.Need-shape_of-keys
 unfolding reset_reference_bit table second halfword way page
-same-length-10 c =
+shape_of-keys c =
     c.reset_block_key.auto.keys ∙ reached_keys (page c.before.before.before.before.before.before.before.before.before)
 
-returns-5 : tie.Need-returns
+returns : tie.Need-returns
 unfolding reset_reference_bit table second halfword way page
-returns-5 c =
+returns c =
     let here = page c.before.before.before.before.before.before.before.before.before in
     finishes c.reset_block_key.result c.answer_after.result
     c.reset_block_key.new.storage c.reset_block_key.new.keys
@@ -137,7 +137,7 @@ reset_reference_bit_spec =
     (λ c κs. search rules)
     (λ c. search rules)
     (λ c. search rules)
-    returns
+    returns-in_default
     (λ c κs. search rules)
     (λ c κs. search rules)
     (λ c. search rules)
@@ -145,7 +145,7 @@ reset_reference_bit_spec =
     (λ c κs. search rules)
     (λ c. search rules)
     (λ c. search rules)
-    returns-2
+    returns-in_default-halfword
     (λ c κs. search rules)
     (λ c κs. search rules)
     (λ c κs. search rules)
@@ -154,17 +154,17 @@ reset_reference_bit_spec =
     (λ c. search rules)
     (λ c κs. search rules)
     (λ c. search rules)
-    same-length-6
-    returns-3
+    shape_of-keys-in_default-found
+    returns-in_default-found
     (λ c κs. search rules)
-    put-swap-word-requires
+    put_swap_word-requires
     (λ c κs. search rules)
-    (λ c κs. search rules)
-    (λ c. search rules)
-    same-length-8
-    returns-4
-    reset-block-key-requires
     (λ c κs. search rules)
     (λ c. search rules)
-    same-length-10
-    returns-5)
+    shape_of-keys-then-page
+    returns-then-page
+    reset_block_key-requires
+    (λ c κs. search rules)
+    (λ c. search rules)
+    shape_of-keys
+    returns)

@@ -29,26 +29,26 @@ consulted c =
     asks start _ _ (begin (entry start) (stage start)) c.consult_key-consulted.result s c.consult_key-consulted.new.keys
     (fresh _ _ (c.consult_key-consulted.ensures s))
 
-returns : tie.Need-returns-in_default
+returns-in_default : tie.Need-returns-in_default
 unfolding set_block_key consulted
-returns c =
+returns-in_default c =
     let asked = consulted c.before.before.before.before in
     ended_with c.ending.result asked c.ending.ensures
     c.in_default.is
 
 -- step 11, the new key: it was consulted, so it is there
-put-key-requires : tie.Need-put_key-requires
+put_key-requires : tie.Need-put_key-requires
 unfolding set_block_key consulted
-put-key-requires c κs =
+put_key-requires c κs =
     let asked = consulted c.before.before.before.before.before.before in
     let there = sure _ asked c.in-Value.is
     (consult_key-gives (length asked.left.storage) (length asked.left.keys) Whole _ _) in
     omega (arith, there, c.consult_key-consulted.auto.keys)
 
 -- and step 12
-returns-2 : tie.Need-returns
+returns : tie.Need-returns
 unfolding store_swap_word set_block_key consulted
-returns-2 c =
+returns c =
     let earlier = c.before.before.before.before.before.before.before.before.before.before.before.before in
     let here = given (consulted
     earlier.before.before.before.before.before.before) c.in-Value.is in
@@ -69,13 +69,13 @@ set_block_key_spec =
     (λ c. search rules)
     (λ c κs. search rules)
     (λ c. search rules)
-    returns
+    returns-in_default
     (λ c κs. search rules)
     (λ c κs. search rules)
-    put-key-requires
+    put_key-requires
     (λ c κs. search rules)
     (λ c κs. search rules)
     (λ c κs. search rules)
     (λ c. search rules)
     (λ c. search rules)
-    returns-2)
+    returns)

@@ -26,9 +26,9 @@ table c =
     (fresh _ _
     (simp (c.steps.ensures, c.assists_keys.ensures) at c.segment_table-table.ensures))
 
-returns : tie.Need-returns-in_default
+returns-in_default : tie.Need-returns-in_default
 unfolding set_storage_key table
-returns c =
+returns-in_default c =
     let asked = table c.before.before.before.before in
     ended_with c.ending.result asked c.ending.ensures
     c.in_default.is
@@ -43,9 +43,9 @@ way c =
     (simp (c.steps-2.ensures, c.address_word-at.ensures) at
     c.find_page.ensures)
 
-returns-2 : tie.Need-returns-in_default-found
+returns-in_default-found : tie.Need-returns-in_default-found
 unfolding set_storage_key table way
-returns-2 c =
+returns-in_default-found c =
     let sought = way c.before.before in
     ended_on_way c.ending-in_default-found.result sought c.ending-in_default-found.ensures
     c.in_default-found.is
@@ -55,39 +55,39 @@ unfolding set_storage_key table way
 page c = found (way c.before) c.in-Page.is
 
 -- step 11, the page is invalid: step 12 alone
-put-swap-word-requires : tie.Need-put_swap_word-requires
+put_swap_word-requires : tie.Need-put_swap_word-requires
 unfolding set_storage_key table way
-put-swap-word-requires c κs =
+put_swap_word-requires c κs =
     swap_there (way c.before.before.before.before.before) c.in-Page.is _ _ _ refl
 
-same-length-6 : tie.Need-shape_of-keys-then-page
+shape_of-keys-then-page : tie.Need-shape_of-keys-then-page
 unfolding set_storage_key table way page
-same-length-6 c =
+shape_of-keys-then-page c =
     c.put_swap_word.auto.keys ∙ reached_keys
     (page c.before.before.before.before.before.before.before.before.before.before)
 
-returns-3 : tie.Need-returns-then-page
+returns-then-page : tie.Need-returns-then-page
 unfolding set_storage_key store_swap_word table way page
-returns-3 c =
+returns-then-page c =
     let here = page c.before.before.before.before.before.before.before.before.before.before in
     completes c.completed.result c.put_swap_word.new.storage c.put_swap_word.new.keys
     _ (chosen _ _ _ here.runs c.if-page.true) c.completed.ensures
     (simp c.swap_word.ensures at c.put_swap_word.ensures)
 
 -- it is valid: steps 11 and 12
-set-block-key-requires : tie.Need-set_block_key-requires
+set_block_key-requires : tie.Need-set_block_key-requires
 unfolding set_storage_key table way
-set-block-key-requires c κs =
+set_block_key-requires c κs =
     swap_there (way c.before.before.before.before) c.in-Page.is _ _ _ refl
 
-same-length-8 : tie.Need-shape_of-keys
+shape_of-keys : tie.Need-shape_of-keys
 unfolding set_storage_key table way page
-same-length-8 c =
+shape_of-keys c =
     c.set_block_key.auto.keys ∙ reached_keys (page c.before.before.before.before.before.before.before.before.before)
 
-returns-4 : tie.Need-returns
+returns : tie.Need-returns
 unfolding set_storage_key table way page
-returns-4 c =
+returns c =
     let here = page c.before.before.before.before.before.before.before.before.before in
     finishes c.set_block_key.result c.answer_after.result
     c.set_block_key.new.storage c.set_block_key.new.keys
@@ -106,7 +106,7 @@ set_storage_key_spec =
     (λ c κs. search rules)
     (λ c. search rules)
     (λ c. search rules)
-    returns
+    returns-in_default
     (λ c κs. search rules)
     (λ c κs. search rules)
     (λ c κs. search rules)
@@ -115,15 +115,15 @@ set_storage_key_spec =
     (λ c κs. search rules)
     (λ c. search rules)
     (λ c. search rules)
-    returns-2
+    returns-in_default-found
     (λ c κs. search rules)
-    put-swap-word-requires
-    (λ c κs. search rules)
-    (λ c. search rules)
-    same-length-6
-    returns-3
-    set-block-key-requires
+    put_swap_word-requires
     (λ c κs. search rules)
     (λ c. search rules)
-    same-length-8
-    returns-4)
+    shape_of-keys-then-page
+    returns-then-page
+    set_block_key-requires
+    (λ c κs. search rules)
+    (λ c. search rules)
+    shape_of-keys
+    returns)

@@ -9,15 +9,15 @@ use Rattle.storage_key.proofs.stores.put_swap_word.Tie as tie
 
 -- ---- a word that goes round the top
 
-put-bytes-requires : tie.Need-put_bytes-requires
-put-bytes-requires c κs =
+put_bytes-requires : tie.Need-put_bytes-requires
+put_bytes-requires c κs =
     let a = c.args in
     let there = each_there (length a.storage.now) (addresses a.at 4) c.requires in
     simp (c.sum-fourth.ensures, c.sum-third.ensures, c.sum-second.ensures)
     (there.0, there.1.0, there.1.1.0, there.1.1.1.0)
 
-returns : tie.Need-returns-then-at-gt16777212
-returns c =
+returns-then-at-gt16777212 : tie.Need-returns-then-at-gt16777212
+returns-then-at-gt16777212 c =
     simp (
       c.put_bytes.ensures,
       c.sum-fourth.ensures,
@@ -28,8 +28,8 @@ returns c =
 
 -- ---- one that doesn't: its addresses follow each other
 
-put-bytes-requires-2 : tie.Need-put_bytes-requires-2
-put-bytes-requires-2 c κs =
+put_bytes-requires-2 : tie.Need-put_bytes-requires-2
+put_bytes-requires-2 c κs =
     let below = c.if-at-gt16777212.false in
     let a = c.args in
     let there = each_there (length a.storage.now) (addresses a.at 4) c.requires in
@@ -45,12 +45,12 @@ in_place c =
     c.put_bytes-2.ensures ∙ ap (λ at. stored a.storage.now at a.value) (sym (straight a.at (omega arith)))
 
 -- across a block boundary, and in one block
-returns-2 : tie.Need-returns-then-is_across
-returns-2 c =
+returns-then-is_across : tie.Need-returns-then-is_across
+returns-then-is_across c =
     simp (in_place c.before.before.before.before.before.before.before.before, c.record_word-then-is_across.ensures)
 
-returns-3 : tie.Need-returns
-returns-3 c =
+returns : tie.Need-returns
+returns c =
     let a = c.args in
     simp (
       in_place c.before.before.before.before.before.before.before.before,
@@ -68,21 +68,21 @@ put_swap_word_spec =
     (λ c. search rules)
     (λ c. search rules)
     (λ c. search rules)
-    put-bytes-requires
+    put_bytes-requires
     (λ c κs. search rules)
     (λ c. search rules)
     (λ c. search rules)
-    returns
+    returns-then-at-gt16777212
     (λ c. search rules)
     (λ c. search rules)
     (λ c. search rules)
-    put-bytes-requires-2
+    put_bytes-requires-2
     (λ c κs. search rules)
     (λ c κs. search rules)
     (λ c. search rules)
     (λ c. search rules)
-    returns-2
+    returns-then-is_across
     (λ c κs. search rules)
     (λ c. search rules)
     (λ c. search rules)
-    returns-3)
+    returns)

@@ -22,9 +22,9 @@ fetched c =
     asks start _ _ (begin (entry start) (stage start)) c.page_entry-entry.result c.args.storage.now
     c.page_entry-entry.new.keys (fresh _ _ c.page_entry-entry.ensures)
 
-returns : tie.Need-returns-in_default
+returns-in_default : tie.Need-returns-in_default
 unfolding page_of fetched
-returns c = handed (fetched c.before.before.before) c.in_default.is
+returns-in_default c = handed (fetched c.before.before.before) c.in_default.is
 
 -- step 10
 abbrev form : tie.After-is_malformed → Tested entry stage
@@ -34,13 +34,13 @@ form c =
     tests here.start _ _ _ here.runs (not c.is_invalid.result && c.is_malformed.result)
     (simp (c.is_invalid.ensures, c.is_malformed.ensures))
 
-returns-2 : tie.Need-returns-then-is_invalid-is_malformed
+returns-then-is_invalid-is_malformed : tie.Need-returns-then-is_invalid-is_malformed
 unfolding page_of fetched form
-returns-2 c = stopped (form c.before) c.if-is_invalid-is_malformed.true
+returns-then-is_invalid-is_malformed c = stopped (form c.before) c.if-is_invalid-is_malformed.true
 
-returns-3 : tie.Need-returns
+returns : tie.Need-returns
 unfolding page_of fetched form
-returns-3 c = settles _ (passed (form c.before) c.if-is_invalid-is_malformed.false).runs
+returns c = settles _ (passed (form c.before) c.if-is_invalid-is_malformed.false).runs
 
 pub page_of_spec : {M : Type 1} → statement M
 page_of_spec =
@@ -50,10 +50,10 @@ page_of_spec =
     (λ c. search rules)
     (λ c. search rules)
     (λ c. search rules)
-    returns
+    returns-in_default
     (λ c κs. search rules)
     (λ c κs. search rules)
     (λ c. search rules)
-    returns-2
+    returns-then-is_invalid-is_malformed
     (λ c. search rules)
-    returns-3)
+    returns)

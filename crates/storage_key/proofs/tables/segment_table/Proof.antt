@@ -15,9 +15,9 @@ abbrev stage : tie.Start → Steps ℕ
 stage c = segment_table c.args.assists c.args.numbers c.args.guest
 
 -- step 1
-returns : tie.Need-returns-then-not-assists
+returns-then-not-assists : tie.Need-returns-then-not-assists
 unfolding segment_table
-returns c =
+returns-then-not-assists c =
     let start = c.before.before.before in
     stops _ _ _ (begin (entry start) (stage start)) (ap not c.if-not-assists.true)
 
@@ -30,34 +30,34 @@ field c =
     c.micblok_word-field.result c.args.storage.now c.micblok_word-field.new.keys
     (fresh _ _ c.micblok_word-field.ensures)
 
-returns-2 : tie.Need-returns-in_default
+returns-in_default : tie.Need-returns-in_default
 unfolding segment_table field
-returns-2 c = handed (field c.before.before.before) c.in_default.is
+returns-in_default c = handed (field c.before.before.before) c.in_default.is
 
 abbrev rseg : tie.In-Value → Reached entry stage
 unfolding segment_table field
 rseg c = given (field c.before.before.before) c.in-Value.is
 
 -- step 3
-returns-3 : tie.Need-returns-then-rseg-eq1
+returns-then-rseg-eq1 : tie.Need-returns-then-rseg-eq1
 unfolding segment_table field rseg
-returns-3 c = stops _ _ _ (rseg c.before).runs (eq-eqb _ _ c.if-rseg-eq1.true)
+returns-then-rseg-eq1 c = stops _ _ _ (rseg c.before).runs (eq-eqb _ _ c.if-rseg-eq1.true)
 
-returns-4 : tie.Need-returns
+returns : tie.Need-returns
 unfolding segment_table field rseg
-returns-4 c = settles _ (pass _ _ _ (rseg c.before).runs (ne_eqb _ _ c.if-rseg-eq1.false))
+returns c = settles _ (pass _ _ _ (rseg c.before).runs (ne_eqb _ _ c.if-rseg-eq1.false))
 
 pub segment_table_spec : {M : Type 1} → statement M
 segment_table_spec =
     tie.close
     (tie.spec
-    returns
+    returns-then-not-assists
     (λ c κs. search rules)
     (λ c. search rules)
     (λ c. search rules)
     (λ c. search rules)
-    returns-2
+    returns-in_default
     (λ c. search rules)
-    returns-3
+    returns-then-rseg-eq1
     (λ c. search rules)
-    returns-4)
+    returns)

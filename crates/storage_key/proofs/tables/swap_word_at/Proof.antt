@@ -22,13 +22,13 @@ field c =
     c.control_word-field.new.keys
     (fresh _ _ (simp (c.difference-place.ensures, c.page_table.ensures) at c.control_word-field.ensures))
 
-returns : tie.Need-returns-in_default
+returns-in_default : tie.Need-returns-in_default
 unfolding swap_word_at field
-returns c = handed (field c.before.before.before) c.in_default.is
+returns-in_default c = handed (field c.before.before.before) c.in_default.is
 
-returns-2 : tie.Need-returns
+returns : tie.Need-returns
 unfolding swap_word_at field
-returns-2 c =
+returns c =
     simp (c.sum.ensures, c.address_in.ensures, c.page_index-offset.ensures.0)
     (settles _ (given (field c.before.before.before.before.before.before) c.in-Value.is).runs)
 
@@ -42,10 +42,10 @@ swap_word_at_spec =
     (λ c. search rules)
     (λ c. search rules)
     (λ c. search rules)
-    returns
+    returns-in_default
     (λ c κs. search rules)
     (λ c. search rules)
     (λ c κs. search rules)
     (λ c κs. search rules)
     (λ c. search rules)
-    returns-2)
+    returns)

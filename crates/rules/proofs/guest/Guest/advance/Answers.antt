@@ -2,8 +2,8 @@ use Rattle.std.proofs.Common.{◌≡◌, ℕ, ◌-◌, ◌*◌, ◌/◌, ◌%◌
 use Rattle.rules.proofs.guest.Guest.advance.Goals as goal
 
 -- a number less its remainder is a multiple
-less-remainder : (x : ℕ) → x / 16777216 * 16777216 ≡ x - x % 16777216
-less-remainder x = omega arith
+less_remainder : (x : ℕ) → x / 16777216 * 16777216 ≡ x - x % 16777216
+less_remainder x = omega arith
 
 pub returns : goal.returns
-returns c = simp (c.before.sum-address.ensures, less-remainder)
+returns c = simp (c.before.sum-address.ensures, less_remainder)

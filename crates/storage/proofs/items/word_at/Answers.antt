@@ -2,4 +2,4 @@ use Rattle.std.proofs.Common.{arith}
 use Rattle.storage.proofs.items.word_at.Goals as goal
 
 pub word_by_last_byte-requires : goal.word_by_last_byte-requires
-word_by_last_byte-requires c = let below_top = c.if-at-le16777212.true in omega arith
+word_by_last_byte-requires c = omega arith

@@ -21,4 +21,4 @@ returns c =
       one_block a.at inside Store a.keys.now c.record_byte.ensures,
     )
     (ap (λ s. machine s (marked changed a.keys.now (addresses a.at 4)))
-    (in_place a.storage.now a.at a.value c.if-storage-end.false (omega arith)))
+    (in_place a.storage.now a.at a.value (omega arith) (omega arith)))

@@ -1,5 +1,6 @@
 -- What is proved of trails. The proofs are in proofs/Theorems.antt, and for any buffer in proofs/AnyBuffer.antt.
-use Rattle.std.specs.Prelude.{ℕ, ◌+◌, ◌-◌, ◌/◌, ◌^◌, ◌<◌, ◌≤◌, min, ◌≡◌, cond, ◌⊎◌, List, ◌++◌, length, take, drop, ltb}
+use Rattle.std.specs.Prelude.{ℕ, ◌+◌, ◌-◌, ◌/◌, ◌^◌, ◌<◌, ◌≤◌, min, ltb}
+use Rattle.std.specs.Prelude.{◌≡◌, cond, ◌⊎◌, List, ◌++◌, length, take, drop}
 use Rattle.rules.specs.Machine.{Machine}
 use Rattle.rules.specs.declared.call.Call.{Call}
 use Rattle.rules.specs.Attempt.{attempt}

@@ -165,14 +165,14 @@ returns : tie.Need-returns
 unfolding store_then assisted field halfword first expands operand real
 returns c =
     let earlier = c.before.before.before.before.before.before.before.before.before.before.before.before in
-    let first = earlier.before.before.before.before.before.before.before.before.before.before.before.before.before in
+    let tested = earlier.before.before.before.before.before.before.before.before.before.before.before.before.before in
     let here = real c.before.before.before.before.before.before.before.before.before.before.before.before in
     let a = here.start.args in
     let new = store (address_in c.in-Value.vpsw) 1
     (new_mask a.change (mask_in c.in-Value-halfword.first) (immediate a.call)) in
     completes c.completed.result c.put_mask.new.storage c.put_mask.new.keys _ here.runs
     c.completed.ensures
-    (simp (changed first, c.address_in-at.ensures) at c.put_mask.ensures
+    (simp (changed tested, c.address_in-at.ensures) at c.put_mask.ensures
     ∙ ap (λ m. perform m new)
     (c.store_byte.ensures
     ∙ ap (λ v. perform here.left (store c.in-Value-operand.real 1 v)) c.mask_in-old.ensures.0))

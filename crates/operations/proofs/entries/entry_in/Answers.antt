@@ -3,4 +3,4 @@ use Rattle.operations.proofs.Table.{each_by_rule}
 use Rattle.operations.proofs.entries.entry_in.Goals as goal
 
 pub returns : goal.returns
-returns c = each_by_rule c.before.args.entries.now c.before.requires c.before.args.byte (search rules)
+returns c = each_by_rule c.args.entries.now c.requires c.args.byte (search rules)

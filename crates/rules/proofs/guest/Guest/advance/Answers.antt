@@ -6,4 +6,4 @@ less_remainder : (x : ℕ) → x / 16777216 * 16777216 ≡ x - x % 16777216
 less_remainder x = omega arith
 
 pub returns : goal.returns
-returns c = simp (c.before.sum-address.ensures, less_remainder)
+returns c = simp (c.sum-address.ensures, less_remainder)

@@ -10,5 +10,5 @@ some_base g (suc r) h = refl
 
 pub returns : goal.returns
 returns c =
-    let a = c.before.before.args in
-    ap (word 8 31) c.register.ensures ∙ some_base a.self a.r c.before.if-r-eq0.false
+    let a = c.args in
+    ap (word 8 31) c.register.ensures ∙ some_base a.self a.r c.if-r-eq0.false

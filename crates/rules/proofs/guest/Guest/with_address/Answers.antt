@@ -5,7 +5,7 @@ use Rattle.rules.proofs.guest.Guest.with_address.Goals as goal
 -- there is no register after 15
 pub returns-else-number-lt16 : goal.returns-else-number-lt16
 returns-else-number-lt16 c =
-    let a = c.before.args in
+    let a = c.args in
     let g = a.self in
     let sixteen : length g.general ≡ 16 = search rules in
     let past : length g.general ≤ a.r = omega arith in

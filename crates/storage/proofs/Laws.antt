@@ -11,6 +11,9 @@ use Rattle.std.proofs.Common.{
   false,
   List,
   length,
+  Result,
+  Ok,
+  Err,
   sym,
   refl,
   ap,
@@ -32,26 +35,21 @@ use Rattle.rules.proofs.Recording.{noted_all-length}
 use Rattle.rules.proofs.Bind.{following, view_bind, ended_as, run_ending_as}
 use Rattle.rules.proofs.Gives.{Gives, IfGave, run_gives}
 use Rattle.storage.specs.Answers.{
-  Stepped,
-  Value,
-  Stopped,
   machine,
   went,
   over,
+  Counted,
+  Step,
+  counted,
   told,
   seen,
   later,
   refused,
-  Concluded,
-  Complete,
-  Ended,
   Finished,
   finished,
   finish,
-  ending,
   completion_as,
   completion,
-  later_answer,
 }
 
 -- after n references more
@@ -63,14 +61,14 @@ pub record Runs {A : Type 0} (m : Machine) (t : Steps A) (n : ℕ) (m' : Machine
   pub so : seen t m ≡ more n (seen u m')
   pub small : n < 2 ^ 32
 
-abbrev counted : {A : Type 0} → View A → ℕ → View A
-counted x n = record { outcome = x.outcome; count = n; left = x.left }
+abbrev recounted : {A : Type 0} → View A → ℕ → View A
+recounted x n = record { outcome = x.outcome; count = n; left = x.left }
 
 more_zero : {A : Type 0} (p : Steps A) (m : Machine) → seen p m ≡ more 0 (seen p m)
 unfolding seen
 more_zero p m =
     let c = (view p m).count in
-    ap (counted (seen p m)) (let e : c % 2 ^ 32 ≡ (0 + c % 2 ^ 32) % 2 ^ 32 = omega arith in e)
+    ap (recounted (seen p m)) (let e : c % 2 ^ 32 ≡ (0 + c % 2 ^ 32) % 2 ^ 32 = omega arith in e)
 
 pub begin : {A : Type 0} → (m : Machine) (t : Steps A) → Runs m t 0 m t
 begin m t = record { so = more_zero t m; small = omega arith }
@@ -90,12 +88,12 @@ runs_keys {m = m} {m' = m'} {t = t} {u = u} h =
 pub fresh : {A : Type 0} (p : Steps A) (m : Machine) {x : View A} → x ≡ seen p m → x ≡ more 0 (seen p m)
 fresh p m f = f ∙ more_zero p m
 
-told_later : (n : ℕ) (r : Stepped) (s ks : List ℕ) → told (later n r) s ks ≡ more n (told r s ks)
-told_later n (Value v c) s ks = refl
-told_later n (Stopped e c) s ks = refl
+told_later : {A : Type 0} (n : ℕ) (r : Step A) (s ks : List ℕ) → told (later n r) s ks ≡ more n (told r s ks)
+told_later n (Ok x) s ks = refl
+told_later n (Err e) s ks = refl
 
-pub waited : (r r' : Stepped) (n : ℕ) (s ks : List ℕ) (p : Steps ℕ) (m : Machine)
-    → r' ≡ later n r → told r s ks ≡ seen p m → told r' s ks ≡ more n (seen p m)
+pub waited : {A : Type 0} (r r' : Step A) (n : ℕ) (s ks : List ℕ) (p : Steps A) (m : Machine) → r' ≡ later n r
+    → told r s ks ≡ seen p m → told r' s ks ≡ more n (seen p m)
 waited r r' n s ks p m e f = ap (λ x. told x s ks) e ∙ told_later n r s ks ∙ ap (more n) f
 
 -- what p gave has what all that it gives has: so the answer of a fetch says that what was fetched is there
@@ -106,14 +104,14 @@ gave_only Q p m n f h =
     subst (IfGave Q) (sym (ap (λ x. x.outcome) f)) (run_gives Q p m (length m.keys) refl h)
 
 -- every ending refused
-abbrev recast : View ℕ → View ℕ
+abbrev recast : {A : Type 0} → View A → View A
 recast x = record { outcome = ended_as (λ e. refuse) x.outcome; count = x.count; left = x.left }
 
-told_refused : (r : Stepped) (s ks : List ℕ) → told (refused r) s ks ≡ recast (told r s ks)
-told_refused (Value v c) s ks = refl
-told_refused (Stopped e c) s ks = refl
+told_refused : {A : Type 0} (r : Step A) (s ks : List ℕ) → told (refused r) s ks ≡ recast (told r s ks)
+told_refused (Ok x) s ks = refl
+told_refused (Err e) s ks = refl
 
-pub refuses : (r r' : Stepped) (s ks : List ℕ) (p : Steps ℕ) (m : Machine)
+pub refuses : {A : Type 0} (r r' : Step A) (s ks : List ℕ) (p : Steps A) (m : Machine)
     → r' ≡ refused r → told r s ks ≡ seen p m → told r' s ks ≡ seen (ending_as (λ e. refuse) p) m
 unfolding seen
 refuses r r' s ks p m e f =
@@ -133,12 +131,12 @@ pursued (ended e) n m k = over e n m
 pursued (gave a) n m k = more n (seen (k a) m)
 
 pursued_counted : {A B : Type 0} (o : Outcome A) (n : ℕ) (m : Machine) (k : A → Steps B)
-    → let x = following o n m (λ a l. view (k a) l) in counted x (x.count % 2 ^ 32) ≡ pursued o (n % 2 ^ 32) m k
+    → let x = following o n m (λ a l. view (k a) l) in recounted x (x.count % 2 ^ 32) ≡ pursued o (n % 2 ^ 32) m k
 unfolding seen
 pursued_counted (ended e) n m k = refl
 pursued_counted (gave a) n m k =
     let c = (view (k a) m).count in
-    ap (counted (seen (k a) m)) (let e : (n + c) % 2 ^ 32 ≡ (n % 2 ^ 32 + c % 2 ^ 32) % 2 ^ 32 = omega arith in e)
+    ap (recounted (seen (k a) m)) (let e : (n + c) % 2 ^ 32 ≡ (n % 2 ^ 32 + c % 2 ^ 32) % 2 ^ 32 = omega arith in e)
 
 more_pursued : {A B : Type 0} (n : ℕ) (o : Outcome A) (c : ℕ) (m : Machine) (k : A → Steps B)
     → more n (pursued o c m k) ≡ pursued o ((n + c) % 2 ^ 32) m k
@@ -146,7 +144,7 @@ unfolding seen
 more_pursued n (ended e) c m k = refl
 more_pursued n (gave a) c m k =
     let d = (seen (k a) m).count in
-    ap (counted (seen (k a) m))
+    ap (recounted (seen (k a) m))
     (let e : (n + (c + d) % 2 ^ 32) % 2 ^ 32 ≡ ((n + c) % 2 ^ 32 + d) % 2 ^ 32 = omega arith in e)
 
 fits : {A : Type 0} (n : ℕ) (x y : View A) → x ≡ more n y → x.count < 2 ^ 32
@@ -158,7 +156,7 @@ module _ {A : Type 0} {m m' : Machine} {t : Steps A} {n : ℕ} where
   unfolding seen
   bound p k x h f =
       h.so
-      ∙ ap (λ y. more n (counted y (y.count % 2 ^ 32))) (view_bind p k m')
+      ∙ ap (λ y. more n (recounted y (y.count % 2 ^ 32))) (view_bind p k m')
       ∙ ap (more n) (pursued_counted (view p m').outcome (view p m').count (view p m').left k)
       ∙ more_pursued n (view p m').outcome ((view p m').count % 2 ^ 32) (view p m').left k
       ∙ ap (λ y. pursued y.outcome y.count y.left k) (sym f)
@@ -212,41 +210,36 @@ module _ {A : Type 0} {m m' : Machine} {t : Steps A} {n : ℕ} where
 
 -- ---- the last step: its answer, told after the references before it, is the stage's
 
-pub last_after : {m m' : Machine} {t : Steps ℕ} {n : ℕ} (p : Steps ℕ) → Runs m t n m' p → (r r' : Stepped)
+pub last_after : {A : Type 0} {m m' : Machine} {t : Steps A} {n : ℕ} {p : Steps A} → Runs m t n m' p → (r r' : Step A)
     (s ks : List ℕ) → r' ≡ later n r → told r s ks ≡ seen p m' → told r' s ks ≡ seen t m
-last_after {m' = m'} {n = n} p h r r' s ks e f = waited r r' n s ks p m' e f ∙ sym h.so
+last_after {m' = m'} {n = n} {p = p} h r r' s ks e f = waited r r' n s ks p m' e f ∙ sym h.so
 
 -- ---- an instruction's answer
 
-module _ {v : View Completion} (x : Concluded) (s ks : List ℕ) where
-  -- a step stopped
-  pub ended_by : (r : Stepped) {e : Ending} {c : ℕ} → x ≡ ending r → r ≡ Stopped e c → over e c (machine s ks) ≡ v
-      → finished x s ks ≡ finish v
-  ended_by r a b f = ap (λ y. finished y s ks) (a ∙ ap ending b) ∙ ap finish f
-
-  -- a test stopped
-  pub stopped_by : {e : Ending} {c : ℕ} → x ≡ Ended e c → over e c (machine s ks) ≡ v → finished x s ks ≡ finish v
-  stopped_by a f = ap (λ y. finished y s ks) a ∙ ap finish f
+-- an ending is told as an instruction's answer, and finishes it
+pub over_finished : {v : View Completion} {e : Ending} {c : ℕ} (s ks : List ℕ) → over e c (machine s ks) ≡ v
+    → finished (Err (counted e c)) s ks ≡ finish v
+over_finished s ks f = ap finish f
 
 -- the writes were made, and this is changed in the record
-pub completes_as : {m m' : Machine} {t : Steps Completion} {n : ℕ} (change : RecordChange) (x : Concluded)
+pub completes_as : {m m' : Machine} {t : Steps Completion} {n : ℕ} (change : RecordChange) {x : Step RecordChange}
     (s ks : List ℕ) (ws : List Write) → Runs m t n m' (complete_as change ws) → x ≡ completion_as change n (length ws)
     → machine s ks ≡ perform_all m' ws → finished x s ks ≡ finish (seen t m)
 unfolding complete_as
-completes_as {m} {m'} {t} {n} change x s ks ws runs a b =
+completes_as {m} {m'} {t} {n} change s ks ws runs a b =
     ap (λ y. finished y s ks) a
     ∙ ap (λ l. record { answer = completion_as change n (length ws); after = l }) b
     ∙ ap finish (settles (record { change = change; writes = ws }) runs)
 
 -- and where that is nothing
-pub completes : {m m' : Machine} {t : Steps Completion} {n : ℕ} (x : Concluded) (s ks : List ℕ) (ws : List Write)
-    → Runs m t n m' (complete ws) → x ≡ completion n (length ws) → machine s ks ≡ perform_all m' ws
+pub completes : {m m' : Machine} {t : Steps Completion} {n : ℕ} {x : Step RecordChange} (s ks : List ℕ)
+    (ws : List Write) → Runs m t n m' (complete ws) → x ≡ completion n (length ws) → machine s ks ≡ perform_all m' ws
     → finished x s ks ≡ finish (seen t m)
 completes = completes_as Unchanged
 
 -- a later stage's answer handed on
 abbrev deferred : ℕ → Finished → Finished
-deferred n f = record { answer = later_answer n f.answer; after = f.after }
+deferred n f = record { answer = later n f.answer; after = f.after }
 
 finish_more : (n : ℕ) (v : View Completion) → finish (more n v) ≡ deferred n (finish v)
 finish_more n v = go v.outcome v.count v.left
@@ -256,17 +249,17 @@ finish_more n v = go v.outcome v.count v.left
         finish (more n v) ≡ deferred n (finish v)
     go (ended e) i l = refl
     go (gave k) i l =
-        ap (λ z. record { answer = Complete k.change z; after = perform_all l k.writes })
+        ap (λ z. record { answer = Ok (counted k.change z); after = perform_all l k.writes })
         (let z : ((n + i) % 2 ^ 32 + length k.writes) % 2 ^ 32 ≡ (n + (i + length k.writes) % 2 ^ 32) % 2 ^ 32 =
         omega arith in z)
 
-pub finishes : {m m' : Machine} {t u : Steps Completion} {n : ℕ} (x y : Concluded) (s ks : List ℕ)
-    → Runs m t n m' u → y ≡ later_answer n x → finished x s ks ≡ finish (seen u m')
+pub finishes : {m m' : Machine} {t u : Steps Completion} {n : ℕ} {x y : Step RecordChange} (s ks : List ℕ)
+    → Runs m t n m' u → y ≡ later n x → finished x s ks ≡ finish (seen u m')
     → finished y s ks ≡ finish (seen t m)
-finishes {m} {m'} {t} {u} {n} x y s ks h a f =
+finishes {m} {m'} {t} {u} {n} s ks h a f =
     ap (λ y. finished y s ks) a ∙ ap (deferred n) f ∙ sym (finish_more n (seen u m')) ∙ ap finish (sym h.so)
 
 -- and one that goes on before any reference
-pub continues : {m m' : Machine} {t u : Steps Completion} (x : Concluded) (s ks : List ℕ) → Runs m t 0 m' u
+pub continues : {m m' : Machine} {t u : Steps Completion} {x : Step RecordChange} (s ks : List ℕ) → Runs m t 0 m' u
     → finished x s ks ≡ finish (seen u m') → finished x s ks ≡ finish (seen t m)
-continues {m} {m'} {t} {u} x s ks h f = f ∙ ap finish (more_zero u m' ∙ sym h.so)
+continues {m} {m'} {t} {u} s ks h f = f ∙ ap finish (more_zero u m' ∙ sym h.so)

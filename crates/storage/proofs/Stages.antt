@@ -1,48 +1,23 @@
 -- A stage of the code beside the reading program that it follows: what is left to do at a place, and what a call or a
 -- test says there. So a proof names each place once, and the facts that hold there by what they mean.
 --
--- How to read such a proof. For each function the checker makes a record for each place of its code (`rt check
--- --generated DIR --start NAME` writes them): `tie.Start` has the arguments, `tie.After-f` what the call of `f` gave
--- (`tie.After-f-x` under `let x`), `tie.Then-t` and `tie.Else-t` are a branch by the test t, and `tie.In-V` is an arm.
--- A place has the fields of those before it too, and `.before` leads to the place before it. It asks for a `Need` at
--- some of them; most are found by `search rules`; `Need-returns`, `Need-returns-in_default` and so on ask for the
--- promise at a return. A proof goes along the code: what it has asked at a call (`Asked`), which hands on an ending
--- at the return below the call (`handed`, `ended_with`) or gives a value (`given`), and what it has tested (`Tested`),
--- which stops or passes.
-use Rattle.std.proofs.Common.{◌≡◌, ℕ, Bool, true, false, List, length, sym, ap, ◌∙◌}
+-- How to read such a proof. Its answers are named like the goals of the check: `returns-in_err-x` is the return of the
+-- `?` under `let x`, `returns-then-t` the return below the test t, `returns` the last. In an answer `c` has the
+-- arguments and what each call before the goal gave. What several answers need is said once, of a place that comes
+-- before them: `After-f-x`, which has what is known after the call of `f` under `let x`, and which an answer reaches by
+-- `(goal.at.NAME c).After-f-x`. A proof goes along the code: what it has asked at a call (`Asked`), which hands on an
+-- ending at the `?` below the call (`handed`, `ended_with`) or gives a value (`given`), and what it has tested
+-- (`Tested`), which stops or passes.
+use Rattle.std.proofs.Common.{◌≡◌, ℕ, Bool, true, false, List, length, Result, Ok, Err, IsErrAnd, sym, ap, ◌∙◌, subst}
+use Rattle.std.proofs.lemmas.Result.{err_from_is_err_and}
 use Rattle.rules.specs.declared.endings.Ending.{Ending}
+use Rattle.rules.specs.declared.record_change.RecordChange.{RecordChange}
 use Rattle.rules.specs.Machine.{Machine}
 use Rattle.rules.specs.Steps.{Steps, ◌>>=◌, stop_if}
 use Rattle.rules.specs.Call.{Completion}
-use Rattle.storage.specs.Answers.{
-  Stepped,
-  Value,
-  Stopped,
-  machine,
-  over,
-  told,
-  seen,
-  later,
-  Concluded,
-  Ended,
-  finished,
-  finish,
-  ending,
-}
+use Rattle.storage.specs.Answers.{machine, went, over, Counted, Step, told, seen, later, finished, finish}
 use Rattle.rules.proofs.Gives.{Gives}
-use Rattle.storage.proofs.Laws.{
-  more,
-  Runs,
-  waited,
-  gave_only,
-  goes,
-  ends,
-  pass,
-  stops,
-  runs_keys,
-  stopped_by,
-  ended_by,
-}
+use Rattle.storage.proofs.Laws.{more, Runs, waited, gave_only, goes, ends, pass, stops, runs_keys, over_finished}
 
 -- The arguments that a stage began with are an S. They say the machine that it came to, and its reading program.
 module _ {S A : Type 0} (entry : S → Machine) (stage : S → Steps A) where
@@ -55,14 +30,14 @@ module _ {S A : Type 0} (entry : S → Machine) (stage : S → Steps A) where
     pub runs : Runs (entry start) (stage start) count left rest
 
   -- a place at which a step was called: its answer, and the storage and keys that it left
-  pub record Asked : Type 0 where
+  pub record Asked (B : Type 0) : Type 0 where
     pub start : S
     pub count : ℕ
     pub left : Machine
-    pub step : Steps ℕ
-    pub next : ℕ → Steps A
+    pub step : Steps B
+    pub next : B → Steps A
     pub runs : Runs (entry start) (stage start) count left (step >>= next)
-    pub answer : Stepped
+    pub answer : Step B
     pub storage : List ℕ
     pub keys : List ℕ
     pub so : told answer storage keys ≡ more count (seen step left)
@@ -86,44 +61,52 @@ module _ {S A : Type 0} {entry : S → Machine} {stage : S → Steps A} where
 
   -- ---- calls
 
-  abbrev pub asks : {n : ℕ} {m : Machine} (start : S) (p : Steps ℕ) (k : ℕ → Steps A)
-      → Runs (entry start) (stage start) n m (p >>= k) → (r : Stepped) (s ks : List ℕ)
-      → told r s ks ≡ more n (seen p m) → Asked entry stage
-  asks {n} {m} start p k h r s ks f = record {
-    start = start;
-    count = n;
-    left = m;
-    step = p;
-    next = k;
-    runs = h;
-    answer = r;
-    storage = s;
-    keys = ks;
-    so = f;
-  }
+  module _ {B : Type 0} where
+    abbrev pub asks : {n : ℕ} {m : Machine} (start : S) (p : Steps B) (k : B → Steps A)
+        → Runs (entry start) (stage start) n m (p >>= k) → (r : Step B) (s ks : List ℕ)
+        → told r s ks ≡ more n (seen p m) → Asked entry stage B
+    asks {n} {m} start p k h r s ks f = record {
+      start = start;
+      count = n;
+      left = m;
+      step = p;
+      next = k;
+      runs = h;
+      answer = r;
+      storage = s;
+      keys = ks;
+      so = f;
+    }
 
-  -- the same, where its answer was told after the references before it
-  abbrev pub asks_after : {n : ℕ} {m : Machine} (start : S) (p : Steps ℕ) (k : ℕ → Steps A)
-      → Runs (entry start) (stage start) n m (p >>= k) → (r r' : Stepped) (s ks : List ℕ) → r' ≡ later n r
-      → told r s ks ≡ seen p m → Asked entry stage
-  asks_after {n} {m} start p k h r r' s ks e f = asks start p k h r' s ks (waited r r' n s ks p m e f)
+    -- the same, where its answer was told after the references before it
+    abbrev pub asks_after : {n : ℕ} {m : Machine} (start : S) (p : Steps B) (k : B → Steps A)
+        → Runs (entry start) (stage start) n m (p >>= k) → (r r' : Step B) (s ks : List ℕ) → r' ≡ later n r
+        → told r s ks ≡ seen p m → Asked entry stage B
+    asks_after {n} {m} start p k h r r' s ks e f = asks start p k h r' s ks (waited r r' n s ks p m e f)
 
-  -- the value, with which the stage goes on
-  abbrev pub given : (a : Asked entry stage) {v c : ℕ} → a.answer ≡ Value v c → Reached entry stage
-  given a e =
-      reached a.start
-      (goes a.step a.next a.runs (ap (λ x. told x a.storage a.keys) (sym e) ∙ a.so))
+    -- the value, with which the stage goes on
+    abbrev pub given : (a : Asked entry stage B) {x : Counted B} → a.answer ≡ Ok x → Reached entry stage
+    given a e =
+        reached a.start
+        (goes a.step a.next a.runs (ap (λ x. told x a.storage a.keys) (sym e) ∙ a.so))
 
-  -- and it has what all that the step gives has
-  pub sure : (Q : ℕ → Type 0) (a : Asked entry stage) {v c : ℕ} → a.answer ≡ Value v c
-      → Gives (length a.left.storage) (length a.left.keys) Q a.step → Q v
-  sure Q a e h =
-      gave_only Q a.step a.left a.count (ap (λ x. told x a.storage a.keys) (sym e) ∙ a.so) h
+    -- and it has what all that the step gives has
+    pub sure : (Q : B → Type 0) (a : Asked entry stage B) {x : Counted B} → a.answer ≡ Ok x
+        → Gives (length a.left.storage) (length a.left.keys) Q a.step → Q x.value
+    sure Q a e h =
+        gave_only Q a.step a.left a.count (ap (λ x. told x a.storage a.keys) (sym e) ∙ a.so) h
 
-  -- the ending, and with it that of the stage
-  pub ended : (a : Asked entry stage) {e : Ending} {c : ℕ} → a.answer ≡ Stopped e c
-      → over e c (machine a.storage a.keys) ≡ seen (stage a.start) (entry a.start)
-  ended a e = ends a.step a.next a.runs (ap (λ x. told x a.storage a.keys) (sym e) ∙ a.so)
+    -- the ending, and with it that of the stage
+    pub ended : (a : Asked entry stage B) {x : Counted Ending} → a.answer ≡ Err x
+        → over x.value x.count (machine a.storage a.keys) ≡ seen (stage a.start) (entry a.start)
+    ended a e = ends a.step a.next a.runs (ap (λ x. told x a.storage a.keys) (sym e) ∙ a.so)
+
+    -- the answer that the `?` hands on is that of the stage
+    pub handed : (a : Asked entry stage B) {x : Counted Ending} (out : Step A) → a.answer ≡ Err x
+        → IsErrAnd out (λ y. y ≡ x) → told out a.storage a.keys ≡ seen (stage a.start) (entry a.start)
+    handed a out e f =
+        let p = err_from_is_err_and out f in
+        ap (λ y. told y a.storage a.keys) (p.1 ∙ ap Err p.2) ∙ ended a e
 
   -- ---- tests
 
@@ -153,23 +136,19 @@ module _ {S A : Type 0} {entry : S → Machine} {stage : S → Steps A} where
   pub reached_keys : (h : Reached entry stage) → length h.left.keys ≡ length (entry h.start).keys
   reached_keys h = runs_keys h.runs
 
--- ---- a stage that answers a step
-
-module _ {S : Type 0} {entry : S → Machine} {stage : S → Steps ℕ} where
-  -- the answer handed on, where the step ended
-  pub handed : (a : Asked entry stage) {e : Ending} {c : ℕ} → a.answer ≡ Stopped e c
-      → told a.answer a.storage a.keys ≡ seen (stage a.start) (entry a.start)
-  handed a e = ap (λ x. told x a.storage a.keys) e ∙ ended a e
-
 -- ---- an instruction
 
-module _ {S : Type 0} {entry : S → Machine} {stage : S → Steps Completion} (x : Concluded) where
-  -- a step ended it
-  pub ended_with : (a : Asked entry stage) {e : Ending} {c : ℕ} → x ≡ ending a.answer → a.answer ≡ Stopped e c
-      → finished x a.storage a.keys ≡ finish (seen (stage a.start) (entry a.start))
-  ended_with a f e = ended_by x a.storage a.keys a.answer f e (ended a e)
+module _ {S : Type 0} {entry : S → Machine} {stage : S → Steps Completion} where
+  -- a step ended it, and the `?` hands its ending on
+  pub ended_with : {B : Type 0} (a : Asked entry stage B) {x : Counted Ending} (out : Step RecordChange)
+      → a.answer ≡ Err x → IsErrAnd out (λ y. y ≡ x)
+      → finished out a.storage a.keys ≡ finish (seen (stage a.start) (entry a.start))
+  ended_with a out e f =
+      let p = err_from_is_err_and out f in
+      ap (λ y. finished y a.storage a.keys) (p.1 ∙ ap Err p.2) ∙ over_finished a.storage a.keys (ended a e)
 
   -- a test stopped it
-  pub stopped_with : (t : Tested entry stage) → x ≡ Ended t.ending t.count → t.flag ≡ true
-      → finished x t.left.storage t.left.keys ≡ finish (seen (stage t.start) (entry t.start))
-  stopped_with t f e = stopped_by x t.left.storage t.left.keys f (stopped t e)
+  pub stopped_with : (t : Tested entry stage) → t.flag ≡ true
+      → finished (Err (record { value = t.ending; count = t.count })) t.left.storage t.left.keys
+      ≡ finish (seen (stage t.start) (entry t.start))
+  stopped_with t e = over_finished t.left.storage t.left.keys (stopped t e)

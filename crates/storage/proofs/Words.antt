@@ -19,6 +19,8 @@ use Rattle.std.proofs.Common.{
   ◌∷◌,
   ◌++◌,
   length,
+  Some,
+  None,
   get_or,
   take,
   drop,
@@ -31,7 +33,6 @@ use Rattle.std.proofs.Common.{
   le-ltb,
   lt-ltb,
 }
-use mathlib.Core.Option.{some, none}
 use Rattle.rules.specs.Machine.{addresses, value_at, value, stored}
 use Rattle.storage.specs.Items.{item_at, word_bytes}
 use Rattle.storage.proofs.Theorems.{last_byte_decides}
@@ -67,17 +68,17 @@ in_place s a v h k =
 
 -- a word's fetch, which tests its last byte alone
 module _ (s : List ℕ) (a : ℕ) (k : a ≤ 2 ^ 24 - 4) where
-  by_last_byte : {b : Bool} → ltb (a + 3) (length s) ≡ b → item_at s a 4 ≡ cond b (some (value s a 4)) none
+  by_last_byte : {b : Bool} → ltb (a + 3) (length s) ≡ b → item_at s a 4 ≡ cond b (Some (value s a 4)) None
   unfolding item_at
-  by_last_byte t = ap (λ b. cond b (some (value s a 4)) none) (sym (last_byte_decides (length s) a k) ∙ t)
+  by_last_byte t = ap (λ b. cond b (Some (value s a 4)) None) (sym (last_byte_decides (length s) a k) ∙ t)
 
   pub word_there : a + 3 < length s
       → item_at s a 4
-      ≡ some (get_or s a 0 * 16777216 + get_or s (a + 1) 0 * 65536 + get_or s (a + 2) 0 * 256 + get_or s (a + 3) 0)
+      ≡ Some (get_or s a 0 * 16777216 + get_or s (a + 1) 0 * 65536 + get_or s (a + 2) 0 * 256 + get_or s (a + 3) 0)
   word_there h =
       by_last_byte (lt-ltb (a + 3) (length s) h)
-      ∙ ap (λ at. some (value_at s at 0)) (straight a k)
-      ∙ ap some (omega arith)
+      ∙ ap (λ at. Some (value_at s at 0)) (straight a k)
+      ∙ ap Some (omega arith)
 
-  pub word_missing : length s ≤ a + 3 → item_at s a 4 ≡ none
+  pub word_missing : length s ≤ a + 3 → item_at s a 4 ≡ None
   word_missing h = by_last_byte (le-ltb (a + 3) (length s) h)

@@ -3,17 +3,22 @@ ghost use Rattle.std.specs.Prelude.{◌≡◌, ℕ, List};
 ghost use Rattle.rules.specs.Steps.{consult_key};
 ghost use Rattle.storage.specs.Answers.{machine, told, seen};
 
-use crate::steps::Stepped;
+use crate::steps::{Counted, Step};
 use rules::{Ending, KeyUse};
 
 // The key of a block, as it is seen for this use, or the ending if the block is not in storage.
-pub fn consult_key(keys: &mut [u8], for_use: KeyUse, block: u32, missing: Ending) -> Stepped
+pub fn consult_key(keys: &mut [u8], for_use: KeyUse, block: u32, missing: Ending) -> Step<u32>
     ensures { (s : List ℕ) →
         told result s keys.new ≡ seen (consult_key for_use block missing) (machine s keys.old) }
 {
-    let i = block as usize;
-    if i < keys.len() {
-        return Stepped::Value(for_use.seen_as(keys[i] as u32), 1);
-    }
-    Stepped::Stopped(missing, 0)
+    let Some(key) = keys.get(block as usize) else {
+        return Err(Counted {
+            value: missing,
+            count: 0,
+        });
+    };
+    Ok(Counted {
+        value: for_use.seen_as(u32::from(*key)),
+        count: 1,
+    })
 }

@@ -12,10 +12,9 @@ mod recording;
 mod steps;
 mod stores;
 
-pub use answers::{Concluded, answer_after, completed, completed_as};
-pub use fetches::item;
-pub use items::{Item, Width};
+pub use answers::{completed, completed_as};
+pub use fetches::Item;
 pub use keys::consult_key;
 pub use recording::{Access, is_across, record_byte, record_word};
-pub use steps::{Stepped, fetch};
+pub use steps::{Answered, Counted, Step, fetch};
 pub use stores::{store_byte, store_word};

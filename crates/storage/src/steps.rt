@@ -1,73 +1,68 @@
-// The answer of a step of a reading program: a value, or the ending, and the count of references made for it.
+// The answer of a step of a reading program: what it gives, or the ending, and the count of references made for it.
 ghost use Rattle.std.specs.Prelude.{◌≡◌};
 ghost use Rattle.rules.specs.Steps.{fetch_bytes};
-ghost use Rattle.storage.specs.Items.{bytes_in};
-ghost use Rattle.storage.specs.Answers.{later, refused, machine, told, seen, fetched_as};
+ghost use Rattle.storage.specs.Answers.{later, refused, machine, told, seen};
 
-use crate::fetches::{byte_item, halfword_item, word_across, word_within};
-use crate::items::{Item, Width};
-use crate::recording::is_across;
+use crate::fetches::Item;
 use rules::{Ending, Exception};
 
+// Something, and the count of references made for it.
 #[derive(Clone, Copy)]
-pub enum Stepped {
-    Value(u32, u32),
-    Stopped(Ending, u32),
+pub struct Counted<T> {
+    pub value: T,
+    pub count: u32,
 }
 
-impl Stepped {
+pub type Step<T> = Result<Counted<T>, Counted<Ending>>;
+
+// What is made of the answer of a step, or of a walk, whose error is another.
+pub trait Answered<T> {
     // The same after n references more. No attempt makes more than 85, so that the count never goes round.
-    pub fn after(self, n: u32) -> Stepped
+    fn after(self, n: u32) -> Self;
+
+    // The same with every error turned into document 01's "refuse".
+    fn or_refuse(self) -> Step<T>;
+}
+
+impl<T, E: Copy> Answered<T> for Result<Counted<T>, Counted<E>> {
+    fn after(self, n: u32) -> Result<Counted<T>, Counted<E>>
         ensures { result ≡ later n self }
     {
         match self {
-            Stepped::Value(v, count) => Stepped::Value(v, std::num::wrapping_add_u32(n, count)),
-            Stepped::Stopped(e, count) => Stepped::Stopped(e, std::num::wrapping_add_u32(n, count)),
+            Ok(given) => Ok(Counted {
+                value: given.value,
+                count: n.wrapping_add(given.count),
+            }),
+            Err(error) => Err(Counted {
+                value: error.value,
+                count: n.wrapping_add(error.count),
+            }),
         }
     }
 
-    // The same with every ending turned into document 01's "refuse".
-    pub fn or_refuse(self) -> Stepped
+    fn or_refuse(self) -> Step<T>
         ensures { result ≡ refused self }
     {
         match self {
-            Stepped::Value(v, count) => Stepped::Value(v, count),
-            Stepped::Stopped(_, count) => {
-                Stepped::Stopped(Ending::Interruption(Exception::PrivilegedOperation), count)
-            }
+            Ok(given) => Ok(given),
+            Err(error) => Err(Counted {
+                value: Ending::Interruption(Exception::PrivilegedOperation),
+                count: error.count,
+            }),
         }
     }
 }
 
-fn fetched(item: Item, missing: Ending) -> Stepped
-    ensures { result ≡ fetched_as item missing }
-{
-    match item {
-        Item::Of(v) => Stepped::Value(v, 1),
-        Item::Missing => Stepped::Stopped(missing, 0),
-    }
-}
-
-// Beside `word_item` this is a second caller of `word_across`: so the compiler doesn't put that, which is long and
-// seldom taken, into every caller of both.
-fn fetch_word(storage: &[u8], keys: &mut [u8], at: u32, missing: Ending) -> Stepped
-    ensures { told result storage.now keys.new
-        ≡ seen (fetch_bytes at 4 missing) (machine storage.now keys.old) }
-{
-    if is_across(at) {
-        return fetched(word_across(storage, keys, at), missing);
-    }
-    fetched(word_within(storage, keys, at), missing)
-}
-
 // An item of storage, or this ending if a byte of it is not there.
-pub fn fetch(storage: &[u8], keys: &mut [u8], width: Width, at: u32, missing: Ending) -> Stepped
+pub fn fetch<T: Item>(storage: &[u8], keys: &mut [u8], at: u32, missing: Ending) -> Step<u32>
     ensures { told result storage.now keys.new
-        ≡ seen (fetch_bytes at (bytes_in width) missing) (machine storage.now keys.old) }
+        ≡ seen (fetch_bytes at T.bytes missing) (machine storage.now keys.old) }
 {
-    match width {
-        Width::Byte => fetched(byte_item(storage, keys, at), missing),
-        Width::Halfword => fetched(halfword_item(storage, keys, at), missing),
-        Width::Word => fetch_word(storage, keys, at, missing),
+    match T::read(storage, keys, at) {
+        Some(value) => Ok(Counted { value, count: 1 }),
+        None => Err(Counted {
+            value: missing,
+            count: 0,
+        }),
     }
 }

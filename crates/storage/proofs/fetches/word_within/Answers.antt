@@ -1,5 +1,4 @@
-use Rattle.std.proofs.Common.{sym, ap, ◌∙◌, arith}
-use Rattle.storage.specs.Items.{found}
+use Rattle.std.proofs.Common.{Some, sym, ap, ◌∙◌, arith}
 use Rattle.storage.specs.Recording.{Fetch}
 use Rattle.storage.proofs.Fetched.{fetches, misses}
 use Rattle.storage.proofs.Recorded.{within, one_block}
@@ -12,15 +11,12 @@ word_by_last_byte-requires c =
     let ends = inside.1 in
     omega arith
 
-pub returns-in_default : goal.returns-in_default
-returns-in_default c =
+pub returns-in_err-value : goal.returns-in_err-value
+returns-in_err-value c =
     let a = c.args in
-    λ e. misses a.storage.now a.keys.now a.at 4 e
-    (ap found (sym c.in_default.is) ∙ c.word_by_last_byte.ensures)
+    λ e. rw c.from_residual.ensures (misses a.storage.now a.keys.now a.at 4 e (c.in_err-value.ensures))
 
 pub returns : goal.returns
 returns c =
     let a = c.args in
-    λ e. fetches a.storage.now a.keys.now a.at 4 e _
-    (ap found (sym c.in-Of.is) ∙ c.word_by_last_byte.ensures)
-    (one_block a.at c.requires Fetch a.keys.now c.record_byte.ensures)
+    λ e. fetches a.storage.now a.keys.now a.at 4 e _ (c.in_ok-value.ensures) (one_block a.at c.requires Fetch a.keys.now c.record_byte.ensures)

@@ -1,13 +1,6 @@
-use Rattle.std.proofs.Common.{ap, arith, le-ltb, lt-ltb}
-use mathlib.Core.Option.{some}
-use Rattle.storage.specs.Items.{item_at}
+use Rattle.std.proofs.Common.{◌∙◌}
+use Rattle.storage.proofs.Joined.{byte_found}
 use Rattle.storage.proofs.items.byte_at.Goals as goal
 
-pub returns-then-i-storage : goal.returns-then-i-storage
-unfolding item_at
-returns-then-i-storage c =
-    (simp (lt-ltb _ _ c.if-i-storage.true, c.wide.ensures.0) (ap some (omega arith)), c.wide.ensures.1)
-
 pub returns : goal.returns
-unfolding item_at
-returns c = (simp (le-ltb _ _ c.if-i-storage.false), omega arith)
+returns c = c.copied.ensures ∙ byte_found c.args.storage.now c.args.at c.get.result c.get.ensures.lookup

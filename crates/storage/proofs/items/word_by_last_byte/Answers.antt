@@ -1,4 +1,4 @@
-use Rattle.std.proofs.Common.{sym, arith}
+use Rattle.std.proofs.Common.{ap, Some, sym, ◌∙◌, arith}
 use Rattle.storage.proofs.Words.{word_there, word_missing}
 use Rattle.storage.proofs.items.word_by_last_byte.Goals as goal
 
@@ -6,13 +6,8 @@ pub returns-then-i-storage : goal.returns-then-i-storage
 returns-then-i-storage c =
     let below_top = c.requires in
     let tested = c.if-i-storage.true in
-    simp (
-      word_there c.args.storage.now c.args.at (omega arith) (omega arith),
-      c.wide.ensures.0,
-      c.wide-then-i-storage.ensures.0,
-      c.wide-then-i-storage-2.ensures.0,
-      c.wide-then-i-storage-3.ensures.0,
-    )
+    ap Some c.from_be_bytes.ensures
+    ∙ sym (word_there c.args.storage.now c.args.at (omega arith) (omega arith))
 
 pub returns : goal.returns
 returns c =

@@ -1,5 +1,5 @@
 use Rattle.std.proofs.Common.{sym, ◌∙◌}
-use Rattle.storage.proofs.fetches.word_item.Goals as goal
+use Rattle.storage.proofs.fetches.U32Item.read.Goals as goal
 
 pub word_within-requires : goal.word_within-requires
 word_within-requires c =

@@ -1,0 +1,15 @@
+use Rattle.std.proofs.Common.{Some, sym, ap, ◌∙◌, arith}
+use Rattle.storage.specs.Recording.{Fetch, marking}
+use Rattle.storage.proofs.Fetched.{fetches, misses}
+use Rattle.storage.proofs.Recorded.{byte_marked}
+use Rattle.storage.proofs.fetches.U8Item.read.Goals as goal
+
+pub returns-in_err-value : goal.returns-in_err-value
+returns-in_err-value c =
+    let a = c.args in
+    λ e. rw c.from_residual.ensures (misses a.storage.now a.keys.now a.at 1 e (c.in_err-value.ensures))
+
+pub returns : goal.returns
+returns c =
+    let a = c.args in
+    λ e. fetches a.storage.now a.keys.now a.at 1 e _ (ap Some c.from.ensures ∙ c.in_ok-value.ensures) (c.record_byte.ensures ∙ byte_marked (marking Fetch) a.keys.now a.at)

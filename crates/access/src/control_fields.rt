@@ -1,30 +1,20 @@
 // The control program's fields: real, with key zero, each with the step that wants it, which ending 3 carries.
 ghost use Rattle.std.specs.Prelude.{◌≡◌};
-ghost use Rattle.rules.specs.ControlFields.{control_word, control_halfword, micblok_word, address_in, pending};
+ghost use Rattle.rules.specs.declared.endings.Ending.TheVariants.{FieldMissing};
+ghost use Rattle.rules.specs.Steps.{fetch_bytes};
+ghost use Rattle.rules.specs.ControlFields.{micblok_word, address_in, pending};
 ghost use Rattle.rules.specs.ControlFields.{segment_size_in, page_size_in};
 ghost use Rattle.storage.specs.Answers.{machine, told, seen};
 
 use rules::{Ending, Guest, PageSize, SegmentSize};
-use storage::{Stepped, Width};
+use storage::{Item, Step};
 
-pub fn control_word(storage: &[u8], keys: &mut [u8], step: u32, at: u32) -> Stepped
+// A word or a halfword; or ending 3 with this step, where a byte of it is not in storage.
+pub fn control_field<T: Item>(storage: &[u8], keys: &mut [u8], step: u32, at: u32) -> Step<u32>
     ensures { told result storage.now keys.new
-        ≡ seen (control_word step at) (machine storage.now keys.old) }
+        ≡ seen (fetch_bytes at T.bytes (FieldMissing step)) (machine storage.now keys.old) }
 {
-    storage::fetch(storage, keys, Width::Word, at, Ending::FieldMissing(step))
-}
-
-pub fn control_halfword(storage: &[u8], keys: &mut [u8], step: u32, at: u32) -> Stepped
-    ensures { told result storage.now keys.new
-        ≡ seen (control_halfword step at) (machine storage.now keys.old) }
-{
-    storage::fetch(
-        storage,
-        keys,
-        Width::Halfword,
-        at,
-        Ending::FieldMissing(step),
-    )
+    storage::fetch::<T>(storage, keys, at, Ending::FieldMissing(step))
 }
 
 // The offsets of the words of MICBLOK.
@@ -40,11 +30,11 @@ pub fn micblok_word(
     step: u32,
     offset: u32,
     guest: Guest,
-) -> Stepped
+) -> Step<u32>
     ensures { told result storage.now keys.new
         ≡ seen (micblok_word step offset guest) (machine storage.now keys.old) }
 {
-    control_word(storage, keys, step, rules::sum(guest.micblok(), offset))
+    control_field::<u32>(storage, keys, step, rules::sum(guest.micblok(), offset))
 }
 
 // MICRSEG bit 31 says 1M segments, bit 30 2K pages.

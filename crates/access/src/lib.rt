@@ -2,6 +2,7 @@
 #![tactic(auto)]
 
 mod control_fields;
+mod entries;
 mod logical;
 mod pages;
 mod segments;
@@ -10,12 +11,12 @@ mod virtual_tables;
 mod walks;
 
 pub use control_fields::{
-    MICCREG, MICRSEG, MICVPSW, address_in, control_halfword, control_word, is_pending,
-    micblok_word, segment_size_in,
+    MICCREG, MICRSEG, MICVPSW, address_in, control_field, is_pending, micblok_word, segment_size_in,
 };
+pub use entries::{Entries, Real};
 pub use logical::{logical_fetch, second_halfword, store_test};
 pub use pages::{is_invalid, is_malformed, page_entry, page_index, page_table, real_address};
 pub use segments::segment_walk;
-pub use translation::{Formatted, format_of};
+pub use translation::format_of;
 pub use virtual_tables::virtual_walk;
-pub use walks::Walked;
+pub use walks::{WalkEnd, Walked, faults_refused};

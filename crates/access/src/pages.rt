@@ -5,9 +5,10 @@ ghost use Rattle.rules.specs.Translation.{malformed, real_address, page_verdict,
 ghost use Rattle.storage.specs.Answers.{machine, told, seen};
 ghost use Rattle.access.specs.Walks.{told_walk, Follows};
 
-use crate::walks::Walked;
-use rules::{Ending, Format, PageSize, TableFault};
-use storage::{Item, Stepped, Width};
+use crate::entries::Entries;
+use crate::walks::{Walked, fault, walked};
+use rules::{Ending, Format, TableFault};
+use storage::{Counted, Step};
 
 // The origin of the page table that a segment entry names.
 pub fn page_table(segment: u32) -> u32
@@ -36,12 +37,12 @@ pub fn page_entry(
     segment: u32,
     at: u32,
     missing: Ending,
-) -> Stepped
+) -> Step<u32>
     ensures { told result storage.now keys.new
         ≡ seen (entry_of 2 missing (page_entry_at format segment at)) (machine storage.now keys.old) }
 {
     let place = page_entry_at(format, segment, at);
-    storage::fetch(storage, keys, Width::Halfword, place, missing)
+    storage::fetch::<u16>(storage, keys, place, missing)
 }
 
 pub fn is_invalid(format: Format, entry: u32) -> bool
@@ -64,75 +65,36 @@ pub fn real_address(format: Format, entry: u32, at: u32) -> u32
     entry / (bytes / 256) % (16777216 / bytes) * bytes + at % bytes
 }
 
-// The entry at this place, read for an address after so many references: steps 5 and 6.
-pub(crate) fn page_verdict(entry: u32, count: u32, format: Format, place: u32, at: u32) -> Walked
-    ensures { Follows entry count result (page_verdict format place at) }
+// What is made of an entry, read at this place for an address: steps 5 and 6.
+fn page_verdict(entry: Counted<u32>, format: Format, place: u32, at: u32) -> Walked
+    ensures { Follows entry result (page_verdict format place at) }
 {
-    if is_invalid(format, entry) {
-        return Walked::Fault(TableFault::PageInvalid, place, count);
+    let count = entry.count;
+    if is_invalid(format, entry.value) {
+        return fault(TableFault::PageInvalid, place, count);
     }
-    if is_malformed(format, entry) {
-        return Walked::Fault(TableFault::PageFormat, place, count);
+    if is_malformed(format, entry.value) {
+        return fault(TableFault::PageFormat, place, count);
     }
-    Walked::Found(real_address(format, entry, at), count)
+    Ok(Counted {
+        value: real_address(format, entry.value, at),
+        count,
+    })
 }
 
-// By entries at real addresses; where the entry is not in storage, this ending.
-pub(crate) fn page_walk(
+// By entries that are read so.
+pub fn page_walk<E: Entries>(
     storage: &[u8],
     keys: &mut [u8],
-    missing: Ending,
+    entries: E,
     format: Format,
     segment: u32,
     at: u32,
 ) -> Walked
     ensures { told_walk result storage.now keys.new
-        ≡ seen (page_walk (entry_of 2 missing) format segment at) (machine storage.now keys.old) }
+        ≡ seen (page_walk (E.entry entries 2) format segment at) (machine storage.now keys.old) }
 {
     let place = page_entry_at(format, segment, at);
-    let Item::Of(entry) = storage::item(storage, keys, Width::Halfword, place) else {
-        return Walked::Stopped(missing, 0);
-    };
-    page_verdict(entry, 1, format, place, at)
-}
-
-// The same for either size of pages. In each of its two calls the size is a constant, which makes a walk quicker; it
-// has one caller, translation, into which the compiler puts it.
-pub(crate) fn page_walk_by_size(
-    storage: &[u8],
-    keys: &mut [u8],
-    missing: Ending,
-    format: Format,
-    segment: u32,
-    at: u32,
-) -> Walked
-    ensures { told_walk result storage.now keys.new
-        ≡ seen (page_walk (entry_of 2 missing) format segment at) (machine storage.now keys.old) }
-{
-    let page = format.page;
-    let size = format.segment;
-    match page {
-        PageSize::TwoK => page_walk(
-            storage,
-            keys,
-            missing,
-            Format {
-                page: PageSize::TwoK,
-                segment: size,
-            },
-            segment,
-            at,
-        ),
-        PageSize::FourK => page_walk(
-            storage,
-            keys,
-            missing,
-            Format {
-                page: PageSize::FourK,
-                segment: size,
-            },
-            segment,
-            at,
-        ),
-    }
+    let entry = walked(entries.read::<u16>(storage, keys, place))?;
+    page_verdict(entry, format, place, at)
 }

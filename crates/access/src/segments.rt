@@ -1,23 +1,24 @@
 // Segment tables: document 01, "Addresses and translation", steps 2 to 4. One walk serves every table and format.
 ghost use Rattle.std.specs.Prelude.{◌≡◌};
-ghost use Rattle.rules.specs.Translation.{beyond_segments, segment_entry_at, beyond_pages, entry_of};
-ghost use Rattle.rules.specs.Translation.{segment_verdict, segment_walk};
+ghost use Rattle.rules.specs.Translation.{beyond_segments, segment_entry_at, beyond_pages};
+ghost use Rattle.rules.specs.Translation.{segment_verdict, segment_walk, table_walk};
 ghost use Rattle.storage.specs.Answers.{machine, seen};
 ghost use Rattle.access.specs.Walks.{told_walk, Follows};
 
-use crate::pages::page_entry_at;
-use crate::walks::Walked;
-use rules::{Ending, Format, TableFault};
-use storage::{Item, Width};
+use crate::pages::{page_entry_at, page_walk};
+use crate::entries::Entries;
+use crate::walks::{Walked, fault, walked};
+use rules::{Format, TableFault};
+use storage::{After, Counted};
 
 // Step 2: for 64K segments the table's length must reach address bits 8-11.
-pub(crate) fn is_beyond_segments(format: Format, table: u32, at: u32) -> bool
+fn is_beyond_segments(format: Format, table: u32, at: u32) -> bool
     ensures { result ≡ beyond_segments format table at }
 {
     (format.segment_bytes() == 65536) & (table / 16777216 % 256 < at / 1048576 % 16)
 }
 
-pub(crate) fn segment_entry_at(format: Format, table: u32, at: u32) -> u32
+fn segment_entry_at(format: Format, table: u32, at: u32) -> u32
     ensures { result ≡ segment_entry_at format table at }
 {
     let index = at / format.segment_bytes();
@@ -32,41 +33,58 @@ fn is_beyond_pages(format: Format, entry: u32, at: u32) -> bool
     entry / 268435456 % 16 < at / (bytes / 16) % 16
 }
 
-// The entry at this place, read for an address after so many references: steps 3 and 4.
-pub(crate) fn segment_verdict(entry: u32, count: u32, format: Format, place: u32, at: u32) -> Walked
-    ensures { Follows entry count result (segment_verdict format place at) }
+// What is made of an entry, read at this place for an address: steps 3 and 4.
+fn segment_verdict(entry: Counted<u32>, format: Format, place: u32, at: u32) -> Walked
+    ensures { Follows entry result (segment_verdict format place at) }
 {
-    if entry % 2 == 1 {
-        return Walked::Fault(TableFault::SegmentInvalid, place, count);
+    let count = entry.count;
+    if entry.value % 2 == 1 {
+        return fault(TableFault::SegmentInvalid, place, count);
     }
-    if entry / 16777216 % 16 != 0 {
-        return Walked::Fault(TableFault::SegmentFormat, place, count);
+    if entry.value / 16777216 % 16 != 0 {
+        return fault(TableFault::SegmentFormat, place, count);
     }
-    if is_beyond_pages(format, entry, at) {
-        let beyond = page_entry_at(format, entry, at);
-        return Walked::Fault(TableFault::PageTableLength, beyond, count);
+    if is_beyond_pages(format, entry.value, at) {
+        let beyond = page_entry_at(format, entry.value, at);
+        return fault(TableFault::PageTableLength, beyond, count);
     }
-    Walked::Found(entry, count)
+    Ok(entry)
 }
 
-// By entries at real addresses; where the entry is not in storage, this ending.
-pub fn segment_walk(
+// By entries that are read so.
+pub fn segment_walk<E: Entries>(
     storage: &[u8],
     keys: &mut [u8],
-    missing: Ending,
+    entries: E,
     format: Format,
     table: u32,
     at: u32,
 ) -> Walked
     ensures { told_walk result storage.now keys.new
-        ≡ seen (segment_walk (entry_of 4 missing) format table at) (machine storage.now keys.old) }
+        ≡ seen (segment_walk (E.entry entries 4) format table at) (machine storage.now keys.old) }
 {
     let place = segment_entry_at(format, table, at);
     if is_beyond_segments(format, table, at) {
-        return Walked::Fault(TableFault::SegmentTableLength, place, 0);
+        return fault(TableFault::SegmentTableLength, place, 0);
     }
-    let Item::Of(entry) = storage::item(storage, keys, Width::Word, place) else {
-        return Walked::Stopped(missing, 0);
-    };
-    segment_verdict(entry, 1, format, place, at)
+    let entry = walked(entries.read::<u32>(storage, keys, place))?;
+    segment_verdict(entry, format, place, at)
+}
+
+// Both halves, steps 2 to 6: segments by entries that are read one way, pages by entries that are read another.
+pub(crate) fn table_walk<S: Entries, P: Entries>(
+    storage: &[u8],
+    keys: &mut [u8],
+    segments: S,
+    pages: P,
+    format: Format,
+    table: u32,
+    at: u32,
+) -> Walked
+    ensures { told_walk result storage.now keys.new
+        ≡ seen (table_walk (S.entry segments 4) (P.entry pages 2) format table at)
+        (machine storage.now keys.old) }
+{
+    let segment = segment_walk(storage, keys, segments, format, table, at)?;
+    page_walk(storage, keys, pages, format, segment.value, at).after(segment.count)
 }

@@ -1,53 +1,51 @@
-// The answer of a walk through tables, or of a part of one: what was found, what is wrong, or the ending of a fetch.
-ghost use Rattle.std.specs.Prelude.{◌≡◌};
+// The answer of a walk through tables, or of a part of one: what was found, or what ends the walk; each with the count
+// of references.
+ghost use Rattle.std.specs.Prelude.{◌≡◌, Err};
+ghost use Rattle.storage.specs.Answers.{counted};
 ghost use Rattle.rules.specs.Endings.{refuse};
-ghost use Rattle.access.specs.Walks.{later_walk, as_walk, ended_by};
+ghost use Rattle.access.specs.Walks.{Fault, as_walk, ended_by};
 
 use rules::{Ending, Exception, TableFault};
-use storage::Stepped;
+use storage::{Counted, Step};
 
-// Each with the count of references; what is wrong, with the address of the entry that it is about.
+// An ending, or what is wrong with the tables and the address of the entry that it is about.
 #[derive(Clone, Copy)]
-pub enum Walked {
-    Found(u32, u32),
-    Fault(TableFault, u32, u32),
-    Stopped(Ending, u32),
+pub enum WalkEnd {
+    Ended(Ending),
+    Fault(TableFault, u32),
 }
 
-impl Walked {
-    // The same after n references more.
-    pub(crate) fn after(self, n: u32) -> Walked
-        ensures { result ≡ later_walk n self }
-    {
-        match self {
-            Walked::Found(v, count) => Walked::Found(v, std::num::wrapping_add_u32(n, count)),
-            Walked::Fault(x, at, count) => {
-                Walked::Fault(x, at, std::num::wrapping_add_u32(n, count))
-            }
-            Walked::Stopped(e, count) => Walked::Stopped(e, std::num::wrapping_add_u32(n, count)),
-        }
-    }
+pub type Walked = Result<Counted<u32>, Counted<WalkEnd>>;
 
-    // What was found; all that is wrong gives document 01's "refuse".
-    pub fn or_refuse(self) -> Stepped
-        ensures { result ≡ ended_by (λ fault. refuse) self }
-    {
-        match self {
-            Walked::Found(v, count) => Stepped::Value(v, count),
-            Walked::Fault(_, _, count) => {
-                Stepped::Stopped(Ending::Interruption(Exception::PrivilegedOperation), count)
-            }
-            Walked::Stopped(e, count) => Stepped::Stopped(e, count),
-        }
-    }
-}
-
-// A step's answer as a walk's.
-pub(crate) fn as_walk(step: Stepped) -> Walked
+// A step's ending ends the walk.
+pub(crate) fn walked(step: Step<u32>) -> Walked
     ensures { result ≡ as_walk step }
 {
-    match step {
-        Stepped::Value(v, count) => Walked::Found(v, count),
-        Stepped::Stopped(e, count) => Walked::Stopped(e, count),
-    }
+    step.map_err(|end| Counted {
+        value: WalkEnd::Ended(end.value),
+        count: end.count,
+    })
+}
+
+// The walk ends here, with what is wrong and where, after so many references.
+pub(crate) fn fault(kind: TableFault, entry: u32, count: u32) -> Walked
+    ensures { result ≡ Err (counted (Fault kind entry) count) }
+{
+    Err(Counted {
+        value: WalkEnd::Fault(kind, entry),
+        count,
+    })
+}
+
+// The walk's answer as a step's: all that is wrong with the tables gives document 01's "refuse".
+pub fn faults_refused(walked: Walked) -> Step<u32>
+    ensures { result ≡ ended_by (λ fault. refuse) walked }
+{
+    walked.map_err(|end| Counted {
+        value: match end.value {
+            WalkEnd::Ended(ending) => ending,
+            WalkEnd::Fault(_, _) => Ending::Interruption(Exception::PrivilegedOperation),
+        },
+        count: end.count,
+    })
 }

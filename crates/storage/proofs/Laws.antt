@@ -208,6 +208,11 @@ module _ {A : Type 0} {m m' : Machine} {t : Steps A} {n : ℕ} where
       let small = h.small in
       sym (h.so ∙ ap (λ c. over e c m') (let z : (n + 0 % 2 ^ 32) % 2 ^ 32 ≡ n = omega arith in z))
 
+-- ---- the last step, before which no reference was made: its answer is the stage's
+
+pub last : {A : Type 0} {m m' : Machine} {t u : Steps A} → Runs m t 0 m' u → {x : View A} → x ≡ seen u m' → x ≡ seen t m
+last {m' = m'} {u = u} h f = fresh u m' f ∙ sym h.so
+
 -- ---- the last step: its answer, told after the references before it, is the stage's
 
 pub last_after : {A : Type 0} {m m' : Machine} {t : Steps A} {n : ℕ} {p : Steps A} → Runs m t n m' p → (r r' : Step A)

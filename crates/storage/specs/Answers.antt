@@ -58,8 +58,8 @@ abbrev pub later : {A E : Type 0} → (n : ℕ) → Result (Counted A) (Counted 
 later n (Ok given) = Ok (counted given.value ((n + given.count) % 2 ^ 32))
 later n (Err e) = Err (counted e.value ((n + e.count) % 2 ^ 32))
 
--- every error refused
-abbrev pub refused : {A E : Type 0} → Result (Counted A) (Counted E) → Step A
+-- every ending refused
+abbrev pub refused : {A : Type 0} → Step A → Step A
 refused (Ok given) = Ok given
 refused (Err e) = Err (counted refuse e.count)
 

@@ -15,16 +15,13 @@ pub struct Counted<T> {
 
 pub type Step<T> = Result<Counted<T>, Counted<Ending>>;
 
-// What is made of the answer of a step, or of a walk, whose error is another.
-pub trait Answered<T> {
+pub trait After {
     // The same after n references more. No attempt makes more than 85, so that the count never goes round.
     fn after(self, n: u32) -> Self;
-
-    // The same with every error turned into document 01's "refuse".
-    fn or_refuse(self) -> Step<T>;
 }
 
-impl<T, E: Copy> Answered<T> for Result<Counted<T>, Counted<E>> {
+// Whatever the error is: an ending, or what ends a walk through tables.
+impl<T, E> After for Result<Counted<T>, Counted<E>> {
     fn after(self, n: u32) -> Result<Counted<T>, Counted<E>>
         ensures { result ≡ later n self }
     {
@@ -39,18 +36,16 @@ impl<T, E: Copy> Answered<T> for Result<Counted<T>, Counted<E>> {
             }),
         }
     }
+}
 
-    fn or_refuse(self) -> Step<T>
-        ensures { result ≡ refused self }
-    {
-        match self {
-            Ok(given) => Ok(given),
-            Err(error) => Err(Counted {
-                value: Ending::Interruption(Exception::PrivilegedOperation),
-                count: error.count,
-            }),
-        }
-    }
+// The same with every ending turned into document 01's "refuse".
+pub fn refused<T>(step: Step<T>) -> Step<T>
+    ensures { result ≡ refused step }
+{
+    step.map_err(|ending| Counted {
+        value: Ending::Interruption(Exception::PrivilegedOperation),
+        count: ending.count,
+    })
 }
 
 // An item of storage, or this ending if a byte of it is not there.

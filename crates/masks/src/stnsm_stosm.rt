@@ -5,8 +5,8 @@ ghost use Rattle.rules.specs.StoreThenMask.{new_mask, needs_expanded, byte_opera
 ghost use Rattle.storage.specs.Answers.{machine, told, seen, finished, finish};
 
 use crate::bits::{any_rises_pending, goes_up, is_extended, mask_in, put_mask};
-use rules::{Call, Ending, Exception, Guest, MaskChange};
-use storage::{Concluded, Stepped};
+use rules::{Call, Guest, MaskChange, RecordChange};
+use storage::{After, Counted, Step};
 
 // Step 4: the new mask.
 fn new_mask(change: MaskChange, old: u32, immediate: u32) -> u32
@@ -41,57 +41,52 @@ fn needs_expanded(change: MaskChange, ec: bool, pending: bool, old: u32, new: u3
 
 // Steps 5 and 6: the real address of the operand, tested for a store. Any access exception of the second halfword
 // refuses.
-fn byte_operand(storage: &[u8], keys: &mut [u8], guest: Guest) -> Stepped
+fn byte_operand(storage: &[u8], keys: &mut [u8], guest: Guest) -> Step<u32>
     ensures { told result storage.now keys.new
         ≡ seen (byte_operand guest) (machine storage.now keys.old) }
 {
-    let second = access::second_halfword(storage, keys, guest).or_refuse();
-    let Stepped::Value(halfword, count) = second else {
-        return second;
-    };
-    access::store_test(storage, keys, guest, guest.effective(halfword)).after(count)
+    let second = storage::refused(access::second_halfword(storage, keys, guest))?;
+    access::store_test(storage, keys, guest, guest.effective(second.value)).after(second.count)
 }
 
-pub fn store_then(storage: &mut [u8], keys: &mut [u8], change: MaskChange, call: Call) -> Concluded
+pub fn store_then(
+    storage: &mut [u8],
+    keys: &mut [u8],
+    change: MaskChange,
+    call: Call,
+) -> Step<RecordChange>
     ensures { finished result storage.new keys.new
         ≡ finish (seen (store_then change call) (machine storage.old keys.old)) }
 {
     let guest = call.guest;
     // 1
     if !guest.assists_control() {
-        let refuse = Ending::Interruption(Exception::PrivilegedOperation);
-        return Stepped::Stopped(refuse, 0).ending();
+        return storage::refuse(0);
     }
     // 2
-    let field = access::micblok_word(storage, keys, 2, access::MICVPSW, guest);
-    let Stepped::Value(vpsw, count_2) = field else {
-        return field.ending();
-    };
+    let vpsw = access::micblok_word(storage, keys, 2, access::MICVPSW, guest)?;
     // 3
-    let at = access::address_in(vpsw);
-    let halfword = access::control_halfword(storage, keys, 3, at).after(count_2);
-    let Stepped::Value(first, count_3) = halfword else {
-        return halfword.ending();
-    };
+    let at = access::address_in(vpsw.value);
+    let first = access::control_field::<u16>(storage, keys, 3, at).after(vpsw.count)?;
     // 4
-    let old = mask_in(first);
+    let old = mask_in(first.value);
     let new = new_mask(change, old, call.immediate());
     if needs_expanded(
         change,
-        is_extended(first),
-        access::is_pending(vpsw),
+        is_extended(first.value),
+        access::is_pending(vpsw.value),
         old,
         new,
     ) {
-        return Stepped::Stopped(call.expanded(), count_3).ending();
+        return Err(Counted {
+            value: call.expanded(),
+            count: first.count,
+        });
     }
     // 5 and 6
-    let operand = byte_operand(storage, keys, guest).after(count_3);
-    let Stepped::Value(real, count) = operand else {
-        return operand.ending();
-    };
+    let operand = byte_operand(storage, keys, guest).after(first.count)?;
     // 7
-    storage::store_byte(storage, keys, real, old);
+    storage::store_byte(storage, keys, operand.value, old);
     put_mask(storage, keys, at, new);
-    storage::completed(count, 2)
+    storage::completed(operand.count, 2)
 }

@@ -5,31 +5,30 @@ ghost use Rattle.rules.specs.Translation.{fault};
 ghost use Rattle.rules.specs.LoadRealAddress.{loaded, loaded_by, load_by, load_through, load_real_address};
 ghost use Rattle.storage.specs.Answers.{machine, seen, finished, finish};
 
-use access::{Formatted, Walked};
-use rules::{Call, Ending, Exception, Format, RecordChange, TableFault};
-use storage::{Concluded, Stepped};
+use access::WalkEnd;
+use rules::{Call, Format, RecordChange, TableFault};
+use storage::{After, Counted, Step};
 
-fn loaded(code: u32, address: u32) -> Concluded
+fn loaded(code: u32, address: u32) -> Step<RecordChange>
     ensures { (s ks : List ℕ) → finished result s ks ≡ finish (seen (loaded code address) (machine s ks)) }
 {
     storage::completed_as(RecordChange::LoadedAddress(code, address), 0, 0)
 }
 
 // What is wrong with the virtual tables, and the virtual address of the entry that it is about.
-fn faulted(kind: TableFault, entry: u32) -> Concluded
+fn faulted(kind: TableFault, entry: u32) -> Step<RecordChange>
     ensures { (s ks : List ℕ) → finished result s ks ≡ finish (seen (loaded_by (fault kind entry)) (machine s ks)) }
 {
-    let refused = Concluded::Ended(Ending::Interruption(Exception::PrivilegedOperation), 0);
     match kind {
         // 6
         TableFault::SegmentTableLength => loaded(3, entry),
         // 13 to 15
         TableFault::SegmentInvalid => loaded(1, entry),
-        TableFault::SegmentFormat => refused,
+        TableFault::SegmentFormat => storage::refuse(0),
         TableFault::PageTableLength => loaded(3, entry),
         // 22, 23
         TableFault::PageInvalid => loaded(2, entry),
-        TableFault::PageFormat => refused,
+        TableFault::PageFormat => storage::refuse(0),
     }
 }
 
@@ -41,66 +40,61 @@ fn load_by(
     format: Format,
     table: u32,
     at: u32,
-) -> Concluded
+) -> Step<RecordChange>
     ensures { finished result storage.now keys.new
         ≡ finish (seen (load_by rseg format table at) (machine storage.now keys.old)) }
 {
-    let walked = access::virtual_walk(storage, keys, rseg, format, table, at);
-    match walked {
+    match access::virtual_walk(storage, keys, rseg, format, table, at) {
         // 24
-        Walked::Found(real, count) => storage::answer_after(loaded(0, real), count),
-        Walked::Fault(kind, entry, count) => storage::answer_after(faulted(kind, entry), count),
-        Walked::Stopped(e, count) => Concluded::Ended(e, count),
+        Ok(real) => loaded(0, real.value).after(real.count),
+        Err(end) => match end.value {
+            WalkEnd::Fault(kind, entry) => faulted(kind, entry).after(end.count),
+            WalkEnd::Ended(ending) => Err(Counted {
+                value: ending,
+                count: end.count,
+            }),
+        },
     }
 }
 
 // From step 3 on.
-fn load_through(storage: &[u8], keys: &mut [u8], call: Call, rseg: u32, ecblok: u32) -> Concluded
+fn load_through(
+    storage: &[u8],
+    keys: &mut [u8],
+    call: Call,
+    rseg: u32,
+    ecblok: u32,
+) -> Step<RecordChange>
     ensures { finished result storage.now keys.new
         ≡ finish (seen (load_through call rseg ecblok) (machine storage.now keys.old)) }
 {
     let guest = call.guest;
     // 3: virtual control registers 0 and 1
-    let word_0 = access::control_word(storage, keys, 3, ecblok);
-    let Stepped::Value(cr0, count_0) = word_0 else {
-        return word_0.ending();
-    };
-    let word_1 = access::control_word(storage, keys, 4, rules::sum(ecblok, 4)).after(count_0);
-    let Stepped::Value(cr1, count_1) = word_1 else {
-        return word_1.ending();
-    };
+    let cr0 = access::control_field::<u32>(storage, keys, 3, ecblok)?;
+    let at_1 = rules::sum(ecblok, 4);
+    let cr1 = access::control_field::<u32>(storage, keys, 4, at_1).after(cr0.count)?;
     // 4
-    let Formatted::Of(format) = access::format_of(cr0) else {
-        let refuse = Ending::Interruption(Exception::PrivilegedOperation);
-        return Concluded::Ended(refuse, count_1);
+    let Some(format) = access::format_of(cr0.value) else {
+        return storage::refuse(cr1.count);
     };
     // 5
-    let halfword = access::second_halfword(storage, keys, guest).after(count_1);
-    let Stepped::Value(second, count) = halfword else {
-        return halfword.ending();
-    };
-    let at = guest.indexed(call.r2(), second);
-    storage::answer_after(load_by(storage, keys, rseg, format, cr1, at), count)
+    let second = access::second_halfword(storage, keys, guest).after(cr1.count)?;
+    let at = guest.indexed(call.r2(), second.value);
+    load_by(storage, keys, rseg, format, cr1.value, at).after(second.count)
 }
 
-pub fn load_real_address(storage: &[u8], keys: &mut [u8], call: Call) -> Concluded
+pub fn load_real_address(storage: &[u8], keys: &mut [u8], call: Call) -> Step<RecordChange>
     ensures { finished result storage.now keys.new
         ≡ finish (seen (load_real_address call) (machine storage.now keys.old)) }
 {
     let guest = call.guest;
     // 1
     if !guest.assists_control() {
-        return Concluded::Ended(Ending::Interruption(Exception::PrivilegedOperation), 0);
+        return storage::refuse(0);
     }
     // 2
-    let field_1 = access::micblok_word(storage, keys, 1, access::MICRSEG, guest);
-    let Stepped::Value(rseg, count_1) = field_1 else {
-        return field_1.ending();
-    };
-    let field_2 = access::micblok_word(storage, keys, 2, access::MICCREG, guest).after(count_1);
-    let Stepped::Value(creg, count) = field_2 else {
-        return field_2.ending();
-    };
-    let ecblok = access::address_in(creg);
-    storage::answer_after(load_through(storage, keys, call, rseg, ecblok), count)
+    let rseg = access::micblok_word(storage, keys, 1, access::MICRSEG, guest)?;
+    let creg = access::micblok_word(storage, keys, 2, access::MICCREG, guest).after(rseg.count)?;
+    let ecblok = access::address_in(creg.value);
+    load_through(storage, keys, call, rseg.value, ecblok).after(creg.count)
 }

@@ -1,7 +1,8 @@
 // The answer of a step of a reading program: what it gives, or the ending, and the count of references made for it.
-ghost use Rattle.std.specs.Prelude.{◌≡◌};
+ghost use Rattle.std.specs.Prelude.{◌≡◌, Err};
+ghost use Rattle.rules.specs.Endings.{refuse};
 ghost use Rattle.rules.specs.Steps.{fetch_bytes};
-ghost use Rattle.storage.specs.Answers.{later, refused, machine, told, seen};
+ghost use Rattle.storage.specs.Answers.{counted, later, refused, machine, told, seen};
 
 use crate::fetches::Item;
 use rules::{Ending, Exception};
@@ -38,14 +39,21 @@ impl<T, E> After for Result<Counted<T>, Counted<E>> {
     }
 }
 
-// The same with every ending turned into document 01's "refuse".
+// Document 01's "refuse", after so many references.
+pub fn refuse<T>(count: u32) -> Step<T>
+    ensures { result ≡ Err (counted refuse count) }
+{
+    Err(Counted {
+        value: Ending::Interruption(Exception::PrivilegedOperation),
+        count,
+    })
+}
+
+// An answer with every ending turned into it.
 pub fn refused<T>(step: Step<T>) -> Step<T>
     ensures { result ≡ refused step }
 {
-    step.map_err(|ending| Counted {
-        value: Ending::Interruption(Exception::PrivilegedOperation),
-        count: ending.count,
-    })
+    step.or_else(|ending| refuse(ending.count))
 }
 
 // An item of storage, or this ending if a byte of it is not there.

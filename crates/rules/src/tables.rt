@@ -68,13 +68,12 @@ pub struct FieldNumbers {
     pub block: u32,
 }
 
-// A page that was found: its swap word and where that stands; whether the page is invalid; the block of the address,
-// where it is valid; and whether the address is in the upper block of its page.
+// A page that was found: its swap word and where that stands; the block of the address, and none on an invalid page; and
+// whether the address is in the upper block of its page.
 #[derive(Clone, Copy)]
 pub struct FoundPage {
     pub place: u32,
     pub swap: u32,
-    pub invalid: bool,
-    pub block: u32,
+    pub block: Option<u32>,
     pub upper: bool,
 }

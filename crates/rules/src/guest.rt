@@ -2,7 +2,7 @@
 ghost use Rattle.std.specs.Prelude.{◌≡◌};
 ghost use Rattle.rules.specs.Guest.{instruction_address, dat_on, psw_key, extended_control, problem_state};
 ghost use Rattle.rules.specs.Guest.{advance, register, base, effective, indexed, protects_low, assists_control};
-ghost use Rattle.rules.specs.Guest.{micblok, with_byte, with_address, with_code};
+ghost use Rattle.rules.specs.Guest.{micblok, with_register, with_byte, with_address, with_code};
 
 #[derive(Clone, Copy)]
 pub struct Guest {
@@ -50,7 +50,7 @@ impl Guest {
     {
         let mut next = self;
         let address = crate::sum((self.psw % 16777216) as u32, n);
-        next.psw = self.psw / 16777216 * 16777216 + address as u64;
+        next.psw = self.psw / 16777216 * 16777216 + u64::from(address);
         next
     }
 
@@ -58,18 +58,17 @@ impl Guest {
     pub fn register(self, r: u32) -> u32
         ensures { result ≡ register self r }
     {
-        let i = r as usize;
-        if i < 16 {
-            return self.general[i];
+        match self.general.get(r as usize) {
+            Some(word) => *word,
+            None => 0,
         }
-        0
     }
 
-    // The record with bits 24-31 of general register r replaced; there is none after 15.
-    pub fn with_byte(self, r: u32, byte: u8) -> Guest
-        ensures { result ≡ with_byte self r byte }
+    // The record with another word in general register r; there is none after 15.
+    #[tactic(auto, using(std::proofs::lemmas::List::set_past))]
+    fn with_register(self, r: u32, word: u32) -> Guest
+        ensures { result ≡ with_register self r word }
     {
-        let word = self.register(r) / 256 * 256 + byte as u32;
         let place = r as usize;
         let mut next = self;
         if place < 16 {
@@ -78,16 +77,18 @@ impl Guest {
         next
     }
 
+    // The record with bits 24-31 of general register r replaced; there is none after 15.
+    pub fn with_byte(self, r: u32, byte: u8) -> Guest
+        ensures { result ≡ with_byte self r byte }
+    {
+        self.with_register(r, self.register(r) / 256 * 256 + u32::from(byte))
+    }
+
     // The record with another address in general register r; there is none after 15.
     pub fn with_address(self, r: u32, address: u32) -> Guest
         ensures { result ≡ with_address self r address }
     {
-        let number = r as usize;
-        let mut next = self;
-        if number < 16 {
-            next.general[number] = address % 16777216;
-        }
-        next
+        self.with_register(r, address % 16777216)
     }
 
     // The record with another condition code.
@@ -96,7 +97,7 @@ impl Guest {
     {
         let mut next = self;
         let left = self.psw / 70368744177664 * 70368744177664;
-        next.psw = left + (code % 4) as u64 * 17592186044416 + self.psw % 17592186044416;
+        next.psw = left + u64::from(code % 4) * 17592186044416 + self.psw % 17592186044416;
         next
     }
 

@@ -1,5 +1,6 @@
 // A guest's record: the real PSW, the general registers, and real control registers 0, 1 and 6.
-ghost use Rattle.std.specs.Prelude.{◌≡◌};
+ghost use Rattle.std.specs.Prelude.{◌≡◌, ◌<◌};
+ghost use Rattle.rules.specs.Bits.{bit};
 ghost use Rattle.rules.specs.Guest.{instruction_address, dat_on, psw_key, extended_control, problem_state};
 ghost use Rattle.rules.specs.Guest.{advance, register, base, effective, indexed, protects_low, assists_control};
 ghost use Rattle.rules.specs.Guest.{micblok, with_register, with_byte, with_address, with_code};
@@ -20,10 +21,19 @@ impl Guest {
         (self.psw % 16777216) as u32
     }
 
+    // Is this bit of the PSW one? Bit 0 is leftmost.
+    #[tactic(auto, using(crate::proofs::Bits::bit_shifted))]
+    fn psw_bit(self, place: u32) -> bool
+        requires { place < 64 }
+        ensures { result ≡ bit 64 place self.psw }
+    {
+        (self.psw >> (63 - place)) % 2 == 1
+    }
+
     pub fn dat_on(self) -> bool
         ensures { result ≡ dat_on self }
     {
-        self.psw / 288230376151711744 % 2 == 1
+        self.psw_bit(5)
     }
 
     pub fn psw_key(self) -> u32
@@ -35,13 +45,13 @@ impl Guest {
     pub fn extended_control(self) -> bool
         ensures { result ≡ extended_control self }
     {
-        self.psw / 2251799813685248 % 2 == 1
+        self.psw_bit(12)
     }
 
     pub fn problem_state(self) -> bool
         ensures { result ≡ problem_state self }
     {
-        self.psw / 281474976710656 % 2 == 1
+        self.psw_bit(15)
     }
 
     // The record with the instruction address moved on.
@@ -58,10 +68,7 @@ impl Guest {
     pub fn register(self, r: u32) -> u32
         ensures { result ≡ register self r }
     {
-        match self.general.get(r as usize) {
-            Some(word) => *word,
-            None => 0,
-        }
+        self.general.get(r as usize).copied().unwrap_or(0)
     }
 
     // The record with another word in general register r; there is none after 15.

@@ -1,4 +1,5 @@
 // A guest's record: the real PSW, the general registers, and real control registers 0, 1 and 6.
+// `as` stands where no `From` is: it narrows, or makes an index, and the check proves that no bit is lost.
 ghost use Rattle.std.specs.Prelude.{◌≡◌, ◌<◌};
 ghost use Rattle.rules.specs.Bits.{bit};
 ghost use Rattle.rules.specs.Guest.{instruction_address, dat_on, psw_key, extended_control, problem_state};
@@ -72,6 +73,7 @@ impl Guest {
     }
 
     // The record with another word in general register r; there is none after 15.
+    // By index: with `get_mut` the check doesn't find the proof.
     #[tactic(auto, using(std::proofs::lemmas::List::set_past))]
     fn with_register(self, r: u32, word: u32) -> Guest
         ensures { result ≡ with_register self r word }

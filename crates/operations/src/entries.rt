@@ -269,9 +269,10 @@ pub(crate) fn entry(byte: u8) -> u8
 }
 
 // The entry for a byte in a table that passes the test.
+#[tactic(auto, using(crate::proofs::Table::each_by_rule))]
 fn entry_in(entries: &[u8; 256], byte: u8) -> u8
     requires { by_rule entries.now ≡ true }
     ensures { result ≡ entry_of byte }
 {
-    entries[byte as usize]
+    entries[usize::from(byte)]
 }

@@ -16,12 +16,13 @@ pub struct Operation {
 }
 
 // Looked up in the table.
+#[tactic(auto, using(crate::proofs::Table::entry_apart))]
 pub fn operation_of(byte: u8) -> Operation
     ensures { result ≡ operation_of byte }
 {
     let found = entry(byte);
     Operation {
-        length: (found % 128) as u32,
+        length: u32::from(found % 128),
         assisted: found / 128 == 1,
     }
 }

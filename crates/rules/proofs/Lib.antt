@@ -5,6 +5,7 @@ pub mod Within
 pub mod Fits
 pub mod Small
 pub mod Bytes
+pub mod Bits
 pub mod Items
 pub mod All
 pub mod Puts

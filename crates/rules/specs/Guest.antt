@@ -48,25 +48,23 @@ with_code g code = record {
 abbrev pub register : Guest → (r : ℕ) → ℕ
 register g r = slice_index g.general r
 
--- another byte in bits 24-31 of register r
-abbrev pub with_byte : Guest → (r byte : ℕ) → Guest
-with_byte g r byte = record {
+-- another word in register r
+abbrev pub with_register : Guest → (r new : ℕ) → Guest
+with_register g r new = record {
   psw = g.psw;
-  general = slice_set g.general r (word 0 23 (register g r) * 256 + bits 8 0 7 byte);
+  general = slice_set g.general r new;
   cr0 = g.cr0;
   cr1 = g.cr1;
   cr6 = g.cr6;
 }
 
+-- another byte in bits 24-31 of register r
+abbrev pub with_byte : Guest → (r byte : ℕ) → Guest
+with_byte g r byte = with_register g r (word 0 23 (register g r) * 256 + bits 8 0 7 byte)
+
 -- another address in register r: bits 8-31, and zeros before them
 abbrev pub with_address : Guest → (r address : ℕ) → Guest
-with_address g r address = record {
-  psw = g.psw;
-  general = slice_set g.general r (word 8 31 address);
-  cr0 = g.cr0;
-  cr1 = g.cr1;
-  cr6 = g.cr6;
-}
+with_address g r address = with_register g r (word 8 31 address)
 
 -- base 0 means zero
 abbrev pub base : Guest → (r : ℕ) → ℕ

@@ -1,12 +1,12 @@
 -- INSERT STORAGE KEY (09), RR format. Document 02, R-4; document 002, "INSERT STORAGE KEY", with Figures 6 and 7.
 -- The key of the block that R2 addresses comes into R1: the virtual key of the swap table, and in the virtual EC mode
 -- with the reference and change bits of the real key.
-use Rattle.std.specs.Prelude.{ℕ, ◌+◌, ◌*◌, Bool, cond, [], bit_or}
+use Rattle.std.specs.Prelude.{ℕ, ◌+◌, ◌*◌, Bool, cond, [], Option, Some, None, bit_or}
 use Rattle.rules.specs.Endings.{FieldMissing}
 use Rattle.rules.specs.Bits.{bits, word}
 use Rattle.rules.specs.References.{Whole}
 use Rattle.rules.specs.Guest.{Guest}
-use Rattle.rules.specs.Steps.{Steps, branch, ◌>>=◌, consult_key}
+use Rattle.rules.specs.Steps.{Steps, ◌>>=◌, consult_key}
 use Rattle.rules.specs.ControlFields.{control_halfword, micvpsw, address_in}
 use Rattle.rules.specs.Masks.{extended_in}
 use Rattle.rules.specs.Call.{Call, RegisterByte, Completion, complete_as}
@@ -33,13 +33,18 @@ insert_key g page tried marks = do
   complete_as (RegisterByte (inserted_key (extended_in first) (virtual_key page) marks)) []  -- 14
 
 -- step 11: the key of a valid page's block
-unfoldable pub insert_block_key : Guest → FoundPage → Steps Completion
-insert_block_key g page = do
-  key ← consult_key Whole page.block (FieldMissing places.block)
+unfoldable pub insert_block_key : Guest → FoundPage → (block : ℕ) → Steps Completion
+insert_block_key g page block = do
+  key ← consult_key Whole block (FieldMissing places.block)
   insert_key g page places.block (bits 8 5 6 key)
+
+-- steps 11 to 14: on an invalid page, which has no block, no key is tried
+abbrev pub insert_by : Guest → FoundPage → (block : Option ℕ) → Steps Completion
+insert_by g page None = insert_key g page places.page 0
+insert_by g page (Some block) = insert_block_key g page block
 
 unfoldable pub insert_storage_key : Call → Steps Completion
 insert_storage_key c = do
   rseg ← segment_table (assists_keys c) places c.guest  -- 1, 2, 3
   page ← find_page places rseg (word 8 31 (address_word c))  -- 4 to 10
-  branch page.invalid (insert_key c.guest page places.page 0) (insert_block_key c.guest page)  -- 11 to 14
+  insert_by c.guest page page.block  -- 11 to 14

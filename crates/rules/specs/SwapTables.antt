@@ -1,6 +1,6 @@
 -- The way from MICRSEG to a page's entry, swap word and key block, which SSK, ISK and RRB share; and the swap word.
 -- Document 01, "SSK", steps 1 to 10; document 002, ISK, steps 1 to 10, and RRB, steps 1 to 3 and 5 to 11.
-use Rattle.std.specs.Prelude.{ℕ, ◌+◌, ◌-◌, ◌*◌, ◌/◌, ◌^◌, Bool, cond, not, ◌&&◌, ◌==◌, bit_or}
+use Rattle.std.specs.Prelude.{ℕ, ◌+◌, ◌-◌, ◌*◌, ◌/◌, ◌^◌, Bool, cond, not, ◌&&◌, ◌==◌, Some, None, bit_or}
 use Rattle.rules.specs.Endings.{FieldMissing, refuse}
 use Rattle.rules.specs.Translation.{
   Format,
@@ -77,13 +77,12 @@ page_of n f segment a = do
   stop_if (not (invalid f page) && malformed f page) refuse  -- 10
   done page
 
--- what is then known: the block is that of the address, where the page is valid
+-- what is then known: the block is that of the address; an invalid page has none
 abbrev pub found_page : Format → (place swap page address : ℕ) → FoundPage
 found_page f place swap page a = record {
   place = place;
   swap = swap;
-  invalid = invalid f page;
-  block = real_address f page a / 2048;
+  block = cond (invalid f page) None (Some (real_address f page a / 2048));
   upper = bit 32 20 a;
 }
 

@@ -24,28 +24,28 @@ impl Call {
     {
         let byte = self.operation_byte();
         if byte == 0xb2 {
-            return self.first as u32;
+            return u32::from(self.first);
         }
-        byte as u32
+        u32::from(byte)
     }
 
     pub fn r1(self) -> u32
         ensures { result ≡ r1 self }
     {
-        (self.first / 16 % 16) as u32
+        u32::from(self.first / 16 % 16)
     }
 
     // R2 of the RR format is R3 of the RS format, and X2, the index, of the RX format.
     pub fn r2(self) -> u32
         ensures { result ≡ r2 self }
     {
-        (self.first % 16) as u32
+        u32::from(self.first % 16)
     }
 
     pub fn immediate(self) -> u32
         ensures { result ≡ immediate self }
     {
-        (self.first % 256) as u32
+        u32::from(self.first % 256)
     }
 
     // The record with what an instruction changes in it.

@@ -1,8 +1,10 @@
 // A guest's record: the real PSW, the general registers, and real control registers 0, 1 and 6.
-ghost use Rattle.std.specs.Prelude.{◌≡◌};
+// `as` stands where no `From` is: it narrows, or makes an index, and the check proves that no bit is lost.
+ghost use Rattle.std.specs.Prelude.{◌≡◌, ◌<◌};
+ghost use Rattle.rules.specs.Bits.{bit};
 ghost use Rattle.rules.specs.Guest.{instruction_address, dat_on, psw_key, extended_control, problem_state};
 ghost use Rattle.rules.specs.Guest.{advance, register, base, effective, indexed, protects_low, assists_control};
-ghost use Rattle.rules.specs.Guest.{micblok, with_byte, with_address, with_code};
+ghost use Rattle.rules.specs.Guest.{micblok, with_register, with_byte, with_address, with_code};
 
 #[derive(Clone, Copy)]
 pub struct Guest {
@@ -20,10 +22,19 @@ impl Guest {
         (self.psw % 16777216) as u32
     }
 
+    // Is this bit of the PSW one? Bit 0 is leftmost.
+    #[tactic(auto, using(crate::proofs::Bits::bit_shifted))]
+    fn psw_bit(self, place: u32) -> bool
+        requires { place < 64 }
+        ensures { result ≡ bit 64 place self.psw }
+    {
+        (self.psw >> (63 - place)) % 2 == 1
+    }
+
     pub fn dat_on(self) -> bool
         ensures { result ≡ dat_on self }
     {
-        self.psw / 288230376151711744 % 2 == 1
+        self.psw_bit(5)
     }
 
     pub fn psw_key(self) -> u32
@@ -35,13 +46,13 @@ impl Guest {
     pub fn extended_control(self) -> bool
         ensures { result ≡ extended_control self }
     {
-        self.psw / 2251799813685248 % 2 == 1
+        self.psw_bit(12)
     }
 
     pub fn problem_state(self) -> bool
         ensures { result ≡ problem_state self }
     {
-        self.psw / 281474976710656 % 2 == 1
+        self.psw_bit(15)
     }
 
     // The record with the instruction address moved on.
@@ -50,7 +61,7 @@ impl Guest {
     {
         let mut next = self;
         let address = crate::sum((self.psw % 16777216) as u32, n);
-        next.psw = self.psw / 16777216 * 16777216 + address as u64;
+        next.psw = self.psw / 16777216 * 16777216 + u64::from(address);
         next
     }
 
@@ -58,18 +69,15 @@ impl Guest {
     pub fn register(self, r: u32) -> u32
         ensures { result ≡ register self r }
     {
-        let i = r as usize;
-        if i < 16 {
-            return self.general[i];
-        }
-        0
+        self.general.get(r as usize).copied().unwrap_or(0)
     }
 
-    // The record with bits 24-31 of general register r replaced; there is none after 15.
-    pub fn with_byte(self, r: u32, byte: u8) -> Guest
-        ensures { result ≡ with_byte self r byte }
+    // The record with another word in general register r; there is none after 15.
+    // By index: with `get_mut` the check doesn't find the proof.
+    #[tactic(auto, using(std::proofs::lemmas::List::set_past))]
+    fn with_register(self, r: u32, word: u32) -> Guest
+        ensures { result ≡ with_register self r word }
     {
-        let word = self.register(r) / 256 * 256 + byte as u32;
         let place = r as usize;
         let mut next = self;
         if place < 16 {
@@ -78,16 +86,18 @@ impl Guest {
         next
     }
 
+    // The record with bits 24-31 of general register r replaced; there is none after 15.
+    pub fn with_byte(self, r: u32, byte: u8) -> Guest
+        ensures { result ≡ with_byte self r byte }
+    {
+        self.with_register(r, self.register(r) / 256 * 256 + u32::from(byte))
+    }
+
     // The record with another address in general register r; there is none after 15.
     pub fn with_address(self, r: u32, address: u32) -> Guest
         ensures { result ≡ with_address self r address }
     {
-        let number = r as usize;
-        let mut next = self;
-        if number < 16 {
-            next.general[number] = address % 16777216;
-        }
-        next
+        self.with_register(r, address % 16777216)
     }
 
     // The record with another condition code.
@@ -96,7 +106,7 @@ impl Guest {
     {
         let mut next = self;
         let left = self.psw / 70368744177664 * 70368744177664;
-        next.psw = left + (code % 4) as u64 * 17592186044416 + self.psw % 17592186044416;
+        next.psw = left + u64::from(code % 4) * 17592186044416 + self.psw % 17592186044416;
         next
     }
 

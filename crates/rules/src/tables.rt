@@ -25,8 +25,7 @@ impl Format {
     pub fn page_bytes(self) -> u32
         ensures { (result ≡ page_bytes self) × (2048 ≤ result) × ((result ≡ 2048) ⊎ (result ≡ 4096)) }
     {
-        let page = self.page;
-        match page {
+        match self.page {
             PageSize::TwoK => 2048,
             PageSize::FourK => 4096,
         }
@@ -35,8 +34,7 @@ impl Format {
     pub fn segment_bytes(self) -> u32
         ensures { (result ≡ segment_bytes self) × (65536 ≤ result) × ((result ≡ 65536) ⊎ (result ≡ 1048576)) }
     {
-        let segment = self.segment;
-        match segment {
+        match self.segment {
             SegmentSize::SixtyFourK => 65536,
             SegmentSize::OneM => 1048576,
         }
@@ -68,13 +66,12 @@ pub struct FieldNumbers {
     pub block: u32,
 }
 
-// A page that was found: its swap word and where that stands; whether the page is invalid; the block of the address,
-// where it is valid; and whether the address is in the upper block of its page.
+// A page that was found: its swap word and where that stands; the block of the address, and none on an invalid page; and
+// whether the address is in the upper block of its page.
 #[derive(Clone, Copy)]
 pub struct FoundPage {
     pub place: u32,
     pub swap: u32,
-    pub invalid: bool,
-    pub block: u32,
+    pub block: Option<u32>,
     pub upper: bool,
 }

@@ -11,6 +11,9 @@ use Rattle.std.proofs.Common.{
   ltb,
   List,
   length,
+  Option,
+  Some,
+  None,
   get_or,
   set,
   refl,
@@ -29,7 +32,7 @@ use Rattle.rules.specs.Guest.{advance, with_byte}
 use Rattle.rules.specs.Endings.{FieldMissing}
 use Rattle.rules.specs.Call.{Call, operation_byte, r1}
 use Rattle.rules.specs.SwapTables.{FoundPage, places, assists_keys, segment_table, find_page}
-use Rattle.rules.specs.InsertStorageKey.{insert_key, insert_block_key, insert_storage_key}
+use Rattle.rules.specs.InsertStorageKey.{insert_key, insert_block_key, insert_by, insert_storage_key}
 use Rattle.rules.proofs.Computing.{fetching}
 use Rattle.rules.proofs.Within.{within_more}
 use Rattle.rules.proofs.Fits.{
@@ -95,10 +98,16 @@ unfolding fetching insert_key
 insert_key-fits c p tried marks h k =
     (h, λ vpsw. (k, λ first. completes refl (advanced c _) (omega arith)))
 
-insert_block_key-fits : (c : Call) (p : FoundPage) → Fits 0x09 c (insert_block_key c.guest p) 3
+insert_block_key-fits : (c : Call) (p : FoundPage) (block : ℕ) → Fits 0x09 c (insert_block_key c.guest p block) 3
 unfolding fetching insert_block_key
-insert_block_key-fits c p =
+insert_block_key-fits c p block =
     (stops refl refl refl, λ key. insert_key-fits c p _ _ (stops refl refl refl) (stops refl refl refl))
+
+insert_by-fits : (c : Call) (p : FoundPage) (block : Option ℕ) → Fits 0x09 c (insert_by c.guest p block) 3
+insert_by-fits c p None =
+    within_more (Stops 0x09) (Completes 0x09 c) (completes_more 0x09 c) (insert_key c.guest p _ 0) 2 3 (omega arith)
+    (insert_key-fits c p _ 0 (stops refl refl refl) (stops refl refl refl))
+insert_by-fits c p (Some block) = insert_block_key-fits c p block
 
 pub insert_storage_key-fits : (c : Call) → Fits 0x09 c (insert_storage_key c) 8
 unfolding fetching insert_storage_key
@@ -106,8 +115,4 @@ insert_storage_key-fits c =
     fits_then 0x09 c (segment_table (assists_keys c) places c.guest) _ 1 7 8 (omega arith)
     (segment_table-within 0x09 places way _ c.guest)
     (λ rseg. fits_then 0x09 c (find_page places rseg _) _ 4 3 7 (omega arith) (find_page-within 0x09 places way rseg _)
-    (λ p. (
-      λ t. within_more (Stops 0x09) (Completes 0x09 c) (completes_more 0x09 c) (insert_key c.guest p _ 0) 2 3
-          (omega arith) (insert_key-fits c p _ 0 (stops refl refl refl) (stops refl refl refl)),
-      λ t. insert_block_key-fits c p,
-    )))
+    (λ p. insert_by-fits c p p.block))

@@ -1,13 +1,13 @@
 -- RESET REFERENCE BIT: how it can end, and at most 12 references.
-use Rattle.std.proofs.Common.{ℕ, [], refl, ap, arith}
+use Rattle.std.proofs.Common.{ℕ, Option, Some, None, refl, ap, arith}
 use Rattle.operations.specs.Operations.{length_of}
 use Rattle.rules.specs.Machine.{◌⊕◌}
 use Rattle.rules.specs.Guest.{instruction_address, assists_control, effective, with_code}
-use Rattle.rules.specs.Steps.{Steps, branch, ◌>>=◌}
+use Rattle.rules.specs.Steps.{Steps, ◌>>=◌}
 use Rattle.rules.specs.Access.{second_halfword}
 use Rattle.rules.specs.Call.{Call, operation_byte, Completion}
 use Rattle.rules.specs.SwapTables.{FoundPage, places, segment_table, find_page}
-use Rattle.rules.specs.ResetReferenceBit.{store_reset, reset_block_key, reset_reference_bit}
+use Rattle.rules.specs.ResetReferenceBit.{store_reset, reset_block_key, reset_by, reset_reference_bit}
 use Rattle.rules.proofs.Computing.{fetching}
 use Rattle.rules.proofs.Fits.{
   Advanced,
@@ -43,25 +43,26 @@ advanced c code =
 
 -- ---- the instruction
 
-reset_block_key-fits : (c : Call) (p : FoundPage) → Fits 0xb213 c (reset_block_key p) 3
+reset_block_key-fits : (c : Call) (p : FoundPage) (block : ℕ) → Fits 0xb213 c (reset_block_key p block) 3
 unfolding fetching store_reset reset_block_key
-reset_block_key-fits c p = (stops refl refl refl, λ old. completes refl (advanced c _) (omega arith))
+reset_block_key-fits c p block = (stops refl refl refl, λ old. completes refl (advanced c _) (omega arith))
 
 -- steps 12 and 13, and from step 5
 abbrev reset : FoundPage → Steps Completion
-reset p = branch p.invalid (store_reset p [] 0) (reset_block_key p)
+reset p = reset_by p p.block
 
 abbrev reset_at : Call → (rseg second : ℕ) → Steps Completion
 reset_at c rseg second = find_page places rseg (effective c.guest second) >>= reset
 
-reset_fits : (c : Call) (p : FoundPage) → Fits 0xb213 c (reset p) 3
+reset_by-fits : (c : Call) (p : FoundPage) (block : Option ℕ) → Fits 0xb213 c (reset_by p block) 3
 unfolding fetching store_reset
-reset_fits c p = (λ t. completes refl (advanced c _) (omega arith), λ t. reset_block_key-fits c p)
+reset_by-fits c p None = completes refl (advanced c _) (omega arith)
+reset_by-fits c p (Some block) = reset_block_key-fits c p block
 
 reset_at-fits : (c : Call) (rseg second : ℕ) → Fits 0xb213 c (reset_at c rseg second) 7
 reset_at-fits c rseg second =
     fits_then 0xb213 c (find_page places rseg _) reset 4 3 7 (omega arith)
-    (find_page-within 0xb213 places way rseg _) (reset_fits c)
+    (find_page-within 0xb213 places way rseg _) (λ p. reset_by-fits c p p.block)
 
 pub reset_reference_bit-fits : (c : Call) → Fits 0xb213 c (reset_reference_bit c) 12
 unfolding fetching reset_reference_bit

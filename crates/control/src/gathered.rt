@@ -1,5 +1,5 @@
 // Step 5: the registers fetched, then every operand word tested in rising order.
-ghost use Rattle.std.specs.Prelude.{◌<◌, ◌≤◌, ◌≡◌, length};
+ghost use Rattle.std.specs.Prelude.{◌<◌, ◌≤◌, ◌≡◌, IfOk, length};
 ghost use Rattle.rules.specs.StoreControl.{virtual_registers, operand_words};
 ghost use Rattle.storage.specs.Answers.{machine, seen};
 ghost use Rattle.control.specs.Gathered.{gathered};

@@ -4,10 +4,10 @@ ghost use Rattle.rules.specs.InsertStorageKey.{insert_key, insert_block_key, ins
 ghost use Rattle.storage.specs.Answers.{machine, seen, finished, finish};
 
 use crate::keys::{address_word, assists_keys, inserted_key, virtual_key};
-use crate::pages::{Found, find_page};
+use crate::pages::find_page;
 use crate::tables::{places, segment_table};
 use rules::{Call, Ending, FoundPage, Guest, KeyUse, RecordChange};
-use storage::{Concluded, Stepped};
+use storage::{After, Step};
 
 // Steps 12 to 14, after so many fields and key blocks were tried.
 fn insert_key(
@@ -17,62 +17,50 @@ fn insert_key(
     page: FoundPage,
     tried: u32,
     marks: u32,
-) -> Concluded
+) -> Step<RecordChange>
     requires { (tried < 256) × (marks < 4) }
     ensures { finished result storage.now keys.new
         ≡ finish (seen (insert_key guest page tried marks) (machine storage.now keys.old)) }
 {
     // 12
-    let field = access::micblok_word(storage, keys, tried + 1, access::MICVPSW, guest);
-    let Stepped::Value(vpsw, count_12) = field else {
-        return field.ending();
-    };
+    let vpsw = access::micblok_word(storage, keys, tried + 1, access::MICVPSW, guest)?;
     // 13
-    let psw_at = access::address_in(vpsw);
-    let halfword = access::control_halfword(storage, keys, tried + 2, psw_at).after(count_12);
-    let Stepped::Value(first, count) = halfword else {
-        return halfword.ending();
-    };
+    let at = access::address_in(vpsw.value);
+    let first = access::control_field::<u16>(storage, keys, tried + 2, at).after(vpsw.count)?;
     // 14: the EC mode is bit 12
-    let key = inserted_key(first / 8 % 2 == 1, virtual_key(page), marks);
-    storage::completed_as(RecordChange::RegisterByte(key), count, 0)
+    let key = inserted_key(first.value / 8 % 2 == 1, virtual_key(page), marks);
+    storage::completed_as(RecordChange::RegisterByte(key), first.count, 0)
 }
 
 // Step 11 on a valid page, and steps 12 to 14.
-fn insert_block_key(storage: &[u8], keys: &mut [u8], guest: Guest, page: FoundPage) -> Concluded
+fn insert_block_key(
+    storage: &[u8],
+    keys: &mut [u8],
+    guest: Guest,
+    page: FoundPage,
+    block: u32,
+) -> Step<RecordChange>
     ensures { finished result storage.now keys.new
-        ≡ finish (seen (insert_block_key guest page) (machine storage.now keys.old)) }
+        ≡ finish (seen (insert_block_key guest page block) (machine storage.now keys.old)) }
 {
-    let missing = Ending::FieldMissing(6);
-    let consulted = storage::consult_key(keys, KeyUse::Whole, page.block, missing);
-    let Stepped::Value(key, count) = consulted else {
-        return consulted.ending();
-    };
-    storage::answer_after(
-        insert_key(storage, keys, guest, page, 6, key / 2 % 4),
-        count,
-    )
+    let key = storage::consult_key(keys, KeyUse::Whole, block, Ending::FieldMissing(6))?;
+    insert_key(storage, keys, guest, page, 6, key.value / 2 % 4).after(key.count)
 }
 
-pub fn insert_storage_key(storage: &[u8], keys: &mut [u8], call: Call) -> Concluded
+pub fn insert_storage_key(storage: &[u8], keys: &mut [u8], call: Call) -> Step<RecordChange>
     ensures { finished result storage.now keys.new
         ≡ finish (seen (insert_storage_key call) (machine storage.now keys.old)) }
 {
     let guest = call.guest;
     let at = address_word(call) % 16777216;
     // 1 to 3
-    let table = segment_table(storage, keys, assists_keys(call), places(), guest);
-    let Stepped::Value(rseg, count_3) = table else {
-        return table.ending();
-    };
+    let rseg = segment_table(storage, keys, assists_keys(call), places(), guest)?;
     // 4 to 10
-    let found = find_page(storage, keys, places(), rseg, at).after(count_3);
-    let Found::Page(page, count) = found else {
-        return found.ending();
-    };
+    let found = find_page(storage, keys, places(), rseg.value, at).after(rseg.count)?;
+    let page = found.value;
     // 11: on an invalid page no key is tried
-    if page.invalid {
-        return storage::answer_after(insert_key(storage, keys, guest, page, 5, 0), count);
+    match page.block {
+        Some(block) => insert_block_key(storage, keys, guest, page, block).after(found.count),
+        None => insert_key(storage, keys, guest, page, 5, 0).after(found.count),
     }
-    storage::answer_after(insert_block_key(storage, keys, guest, page), count)
 }

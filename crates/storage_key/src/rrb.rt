@@ -6,57 +6,53 @@ ghost use Rattle.rules.specs.ResetReferenceBit.{reset_block_key, reset_reference
 ghost use Rattle.storage.specs.Answers.{machine, seen, finished, finish};
 
 use crate::keys::{marks_with, reset_word, unreferred};
-use crate::pages::{Found, find_page};
+use crate::pages::find_page;
 use crate::stores::{put_key, put_swap_word};
 use crate::tables::{places, segment_table};
 use rules::{Call, Ending, FoundPage, KeyUse, RecordChange};
-use storage::{Concluded, Stepped};
+use storage::{After, Step};
 
 // Step 12 on a valid page, and step 13: the key of its block, and the swap word.
-fn reset_block_key(storage: &mut [u8], keys: &mut [u8], page: FoundPage) -> Concluded
+fn reset_block_key(
+    storage: &mut [u8],
+    keys: &mut [u8],
+    page: FoundPage,
+    block: u32,
+) -> Step<RecordChange>
     requires { has (length storage.old) page.place 4 ≡ true }
     ensures { finished result storage.new keys.new
-        ≡ finish (seen (reset_block_key page) (machine storage.old keys.old)) }
+        ≡ finish (seen (reset_block_key page block) (machine storage.old keys.old)) }
 {
-    let block = page.block;
-    let consulted = storage::consult_key(keys, KeyUse::Whole, block, Ending::FieldMissing(6));
-    let Stepped::Value(old, count) = consulted else {
-        return consulted.ending();
-    };
-    let marks = old / 2 % 4;
+    let old = storage::consult_key(keys, KeyUse::Whole, block, Ending::FieldMissing(6))?;
+    let marks = old.value / 2 % 4;
     // 12, and then 13
-    put_key(keys, block, unreferred(old));
+    put_key(keys, block, unreferred(old.value));
     put_swap_word(storage, keys, page.place, reset_word(page, marks));
     let change = RecordChange::ConditionCode(marks_with(page, marks));
-    storage::completed_as(change, count, 2)
+    storage::completed_as(change, old.count, 2)
 }
 
-pub fn reset_reference_bit(storage: &mut [u8], keys: &mut [u8], call: Call) -> Concluded
+pub fn reset_reference_bit(storage: &mut [u8], keys: &mut [u8], call: Call) -> Step<RecordChange>
     ensures { finished result storage.new keys.new
         ≡ finish (seen (reset_reference_bit call) (machine storage.old keys.old)) }
 {
     let guest = call.guest;
     // 1 to 3
-    let table = segment_table(storage, keys, guest.assists_control(), places(), guest);
-    let Stepped::Value(rseg, count_3) = table else {
-        return table.ending();
-    };
+    let rseg = segment_table(storage, keys, guest.assists_control(), places(), guest)?;
     // 4
-    let halfword = access::second_halfword(storage, keys, guest).after(count_3);
-    let Stepped::Value(second, count_4) = halfword else {
-        return halfword.ending();
-    };
+    let second = access::second_halfword(storage, keys, guest).after(rseg.count)?;
     // 5 to 11
-    let found = find_page(storage, keys, places(), rseg, guest.effective(second)).after(count_4);
-    let Found::Page(page, count) = found else {
-        return found.ending();
-    };
+    let at = guest.effective(second.value);
+    let found = find_page(storage, keys, places(), rseg.value, at).after(second.count)?;
+    let page = found.value;
     // 12
-    if page.invalid {
-        // 13
-        put_swap_word(storage, keys, page.place, reset_word(page, 0));
-        let change = RecordChange::ConditionCode(marks_with(page, 0));
-        return storage::completed_as(change, count, 1);
+    match page.block {
+        Some(block) => reset_block_key(storage, keys, page, block).after(found.count),
+        None => {
+            // 13
+            put_swap_word(storage, keys, page.place, reset_word(page, 0));
+            let change = RecordChange::ConditionCode(marks_with(page, 0));
+            storage::completed_as(change, found.count, 1)
+        }
     }
-    storage::answer_after(reset_block_key(storage, keys, page), count)
 }

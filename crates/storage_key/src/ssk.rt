@@ -6,55 +6,54 @@ ghost use Rattle.rules.specs.SetStorageKey.{set_block_key, set_storage_key};
 ghost use Rattle.storage.specs.Answers.{machine, seen, finished, finish};
 
 use crate::keys::{address_word, assists_keys, key_word, new_key, swap_word};
-use crate::pages::{Found, find_page};
+use crate::pages::find_page;
 use crate::stores::{put_key, put_swap_word};
 use crate::tables::{segment_table, steps};
-use rules::{Call, Ending, FoundPage, KeyUse};
-use storage::{Concluded, Stepped};
+use rules::{Call, Ending, FoundPage, KeyUse, RecordChange};
+use storage::{After, Step};
 
 // Step 11 on a valid page, and step 12: the key of its block, and the swap word.
-fn set_block_key(storage: &mut [u8], keys: &mut [u8], call: Call, page: FoundPage) -> Concluded
+fn set_block_key(
+    storage: &mut [u8],
+    keys: &mut [u8],
+    call: Call,
+    page: FoundPage,
+    block: u32,
+) -> Step<RecordChange>
     requires { has (length storage.old) page.place 4 ≡ true }
     ensures { finished result storage.new keys.new
-        ≡ finish (seen (set_block_key call page) (machine storage.old keys.old)) }
+        ≡ finish (seen (set_block_key call page block) (machine storage.old keys.old)) }
 {
-    let block = page.block;
-    let consulted = storage::consult_key(keys, KeyUse::Whole, block, Ending::FieldMissing(11));
-    let Stepped::Value(old, count) = consulted else {
-        return consulted.ending();
-    };
+    let missing = Ending::FieldMissing(11);
+    let old = storage::consult_key(keys, KeyUse::Whole, block, missing)?;
     // 11, and then 12
-    put_key(keys, block, new_key(key_word(call), old));
+    put_key(keys, block, new_key(key_word(call), old.value));
     put_swap_word(
         storage,
         keys,
         page.place,
-        swap_word(call, page, old / 2 % 4),
+        swap_word(call, page, old.value / 2 % 4),
     );
-    storage::completed(count, 2)
+    storage::completed(old.count, 2)
 }
 
-pub fn set_storage_key(storage: &mut [u8], keys: &mut [u8], call: Call) -> Concluded
+pub fn set_storage_key(storage: &mut [u8], keys: &mut [u8], call: Call) -> Step<RecordChange>
     ensures { finished result storage.new keys.new
         ≡ finish (seen (set_storage_key call) (machine storage.old keys.old)) }
 {
-    let guest = call.guest;
     let at = address_word(call) % 16777216;
     // 1 to 3
-    let table = segment_table(storage, keys, assists_keys(call), steps(), guest);
-    let Stepped::Value(rseg, count_3) = table else {
-        return table.ending();
-    };
+    let rseg = segment_table(storage, keys, assists_keys(call), steps(), call.guest)?;
     // 4 to 10
-    let found = find_page(storage, keys, steps(), rseg, at).after(count_3);
-    let Found::Page(page, count) = found else {
-        return found.ending();
-    };
+    let found = find_page(storage, keys, steps(), rseg.value, at).after(rseg.count)?;
+    let page = found.value;
     // 11
-    if page.invalid {
-        // 12
-        put_swap_word(storage, keys, page.place, swap_word(call, page, 0));
-        return storage::completed(count, 1);
+    match page.block {
+        Some(block) => set_block_key(storage, keys, call, page, block).after(found.count),
+        None => {
+            // 12
+            put_swap_word(storage, keys, page.place, swap_word(call, page, 0));
+            storage::completed(found.count, 1)
+        }
     }
-    storage::answer_after(set_block_key(storage, keys, call, page), count)
 }

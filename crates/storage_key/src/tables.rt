@@ -3,8 +3,9 @@ ghost use Rattle.std.specs.Prelude.{◌≡◌};
 ghost use Rattle.rules.specs.SwapTables.{steps, places, format_in, segment_table, segment_of, swap_word_at, page_of};
 ghost use Rattle.storage.specs.Answers.{machine, told, seen};
 
-use rules::{Ending, Exception, FieldNumbers, Format, Guest, PageSize};
-use storage::Stepped;
+use access::Real;
+use rules::{Ending, FieldNumbers, Format, Guest, PageSize};
+use storage::{Counted, Step};
 
 // What ending 3 carries. SSK: the step.
 pub(crate) fn steps() -> FieldNumbers
@@ -41,25 +42,21 @@ pub(crate) fn segment_table(
     assists: bool,
     numbers: FieldNumbers,
     guest: Guest,
-) -> Stepped
+) -> Step<u32>
     ensures { told result storage.now keys.new
         ≡ seen (segment_table assists numbers guest) (machine storage.now keys.old) }
 {
-    let refuse = Ending::Interruption(Exception::PrivilegedOperation);
     // 1
     if !assists {
-        return Stepped::Stopped(refuse, 0);
+        return storage::refuse(0);
     }
     // 2
-    let field = access::micblok_word(storage, keys, numbers.table, access::MICRSEG, guest);
-    let Stepped::Value(rseg, count) = field else {
-        return field;
-    };
+    let rseg = access::micblok_word(storage, keys, numbers.table, access::MICRSEG, guest)?;
     // 3: bit 30
-    if rseg / 2 % 2 == 1 {
-        return Stepped::Stopped(refuse, count);
+    if rseg.value / 2 % 2 == 1 {
+        return storage::refuse(rseg.count);
     }
-    Stepped::Value(rseg, count)
+    Ok(rseg)
 }
 
 // Step 4: 4K pages; bit 31 of MICRSEG chooses 1M segments.
@@ -80,12 +77,16 @@ pub(crate) fn segment_of(
     format: Format,
     rseg: u32,
     at: u32,
-) -> Stepped
+) -> Step<u32>
     ensures { told result storage.now keys.new
         ≡ seen (segment_of numbers format rseg at) (machine storage.now keys.old) }
 {
-    let missing = Ending::FieldMissing(numbers.segment);
-    access::segment_walk(storage, keys, missing, format, rseg, at).or_refuse()
+    let entries = Real {
+        missing: Ending::FieldMissing(numbers.segment),
+    };
+    access::faults_refused(access::segment_walk(
+        storage, keys, entries, format, rseg, at,
+    ))
 }
 
 // Step 7, the word at the page-table origin less 4; and step 8's address, of the swap word.
@@ -96,17 +97,17 @@ pub(crate) fn swap_word_at(
     format: Format,
     segment: u32,
     at: u32,
-) -> Stepped
+) -> Step<u32>
     ensures { told result storage.now keys.new
         ≡ seen (swap_word_at numbers format segment at) (machine storage.now keys.old) }
 {
     let place = rules::difference(access::page_table(segment), 4);
-    let field = access::control_word(storage, keys, numbers.swaps, place);
-    let Stepped::Value(table, count) = field else {
-        return field;
-    };
+    let table = access::control_field::<u32>(storage, keys, numbers.swaps, place)?;
     let offset = 8 * access::page_index(format, at);
-    Stepped::Value(rules::sum(access::address_in(table), offset), count)
+    Ok(Counted {
+        value: rules::sum(access::address_in(table.value), offset),
+        count: table.count,
+    })
 }
 
 // Steps 9 and 10: the page entry.
@@ -117,17 +118,14 @@ pub(crate) fn page_of(
     format: Format,
     segment: u32,
     at: u32,
-) -> Stepped
+) -> Step<u32>
     ensures { told result storage.now keys.new
         ≡ seen (page_of numbers format segment at) (machine storage.now keys.old) }
 {
     let missing = Ending::FieldMissing(numbers.page);
-    let entry = access::page_entry(storage, keys, format, segment, at, missing);
-    let Stepped::Value(page, count) = entry else {
-        return entry;
-    };
-    if !access::is_invalid(format, page) & access::is_malformed(format, page) {
-        return Stepped::Stopped(Ending::Interruption(Exception::PrivilegedOperation), count);
+    let page = access::page_entry(storage, keys, format, segment, at, missing)?;
+    if !access::is_invalid(format, page.value) & access::is_malformed(format, page.value) {
+        return storage::refuse(page.count);
     }
-    Stepped::Value(page, count)
+    Ok(page)
 }

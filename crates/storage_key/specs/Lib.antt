@@ -1,2 +1,0 @@
--- What the answers of this crate's steps say.
-pub mod Way

@@ -1,24 +1,42 @@
 -- Words gathered one after the other: the loop, and what its answer says to the stage that asked for them.
-use Prim.Native.Nat.{ℕ, suc, ◌+◌, ◌-◌, ◌<◌, ◌≤◌}
-use native.Mathlib.Omega.{arith}
+use Rattle.std.proofs.Common.{
+  ◌≡◌,
+  ℕ,
+  suc,
+  ◌+◌,
+  ◌-◌,
+  ◌<◌,
+  ◌≤◌,
+  List,
+  [],
+  ◌∷◌,
+  ◌++◌,
+  length,
+  take,
+  set,
+  Ok,
+  Err,
+  IsErrAnd,
+  refl,
+  sym,
+  ap,
+  ◌∙◌,
+  arith,
+}
+use Rattle.std.proofs.lemmas.Result.{err_from_is_err_and}
 use native.Mathlib.Numerals.{add-one}
 use native.Mathlib.Nat.{sub_self, sub-zero}
-use mathlib.Core.Path.{◌≡◌, refl, sym, ap, ◌∙◌}
-use mathlib.Core.List.{List, [], ◌∷◌, ◌++◌}
-use lib.ListN.{length, take, set, length-set}
+use lib.ListN.{length-set}
 use lib.Seq.{take-suc-set}
 use Rattle.rules.specs.declared.endings.Ending.{Ending}
 use Rattle.rules.specs.Machine.{Machine}
 use Rattle.rules.specs.Steps.{Steps, ◌>>=◌}
-use Rattle.rules.specs.Call.{Completion}
 use Rattle.rules.specs.StoreControl.{gather}
-use Rattle.storage.specs.declared.steps.Stepped.{Stepped}
-use Rattle.storage.specs.declared.steps.Stepped.TheVariants.{Value, Stopped}
-use Rattle.storage.specs.declared.answers.Concluded.{Concluded}
-use Rattle.storage.specs.Answers.{machine, told, went, seen, later, finished, finish, ending}
-use Rattle.storage.proofs.Laws.{Runs, begin, more, goes, ends, settles, ended_by}
-use Rattle.storage.proofs.Stages.{Reached, Asked, reached, asks_after, ended}
-use Rattle.control.specs.Gathered.{Gathered, gathered_by, gathered}
+use Rattle.storage.specs.declared.steps.Counted.{Counted}
+use Rattle.storage.specs.Answers.{Step, machine, told, went, seen, later}
+use Rattle.storage.proofs.Laws.{Runs, begin, settles}
+use Rattle.storage.proofs.Stages.{Asked, asks_after, handed}
+use Rattle.control.specs.Gathered.{first_words}
 
 -- ---- the loop
 
@@ -49,9 +67,9 @@ module _ (p : ℕ → Steps ℕ) (next : ℕ → ℕ) {t : Steps (List ℕ)} {n 
   wanted inside = let e : n - i ≡ suc (n - (i + 1)) = omega arith in rw e at g.runs
 
   -- it was asked, and its answer told after the references before it
-  abbrev pub asked_turn : i < n → (r r' : Stepped) (s' ks' : List ℕ) → r' ≡ later c r
+  abbrev pub asked_turn : i < n → (r r' : Step ℕ) (s' ks' : List ℕ) → r' ≡ later c r
       → told r s' ks' ≡ seen (p x) (machine s ks)
-      → Asked {S = Unit {0}} (λ u. machine s ks₀) (λ u. t)
+      → Asked {S = Unit {0}} (λ u. machine s ks₀) (λ u. t) ℕ
   asked_turn inside r r' s' ks' e f = asks_after tt _ _ (wanted inside) r r' s' ks' e f
 
   -- and was made
@@ -71,62 +89,16 @@ module _ (p : ℕ → Steps ℕ) (next : ℕ → ℕ) {t : Steps (List ℕ)} {n 
       let w = g.within in let e : i ≡ n = omega arith in settles _ (rw (e, sub_self) at g.runs)
 
 -- a step ended, and with it the loop
-pub gathering_ended : {S : Type 0} {entry : S → Machine} {stage : S → Steps (List ℕ)} (a : Asked entry stage)
-    (words : List ℕ) {e : Ending} {c : ℕ} → a.answer ≡ Stopped e c
-    → gathered_by a.answer words a.storage a.keys ≡ seen (stage a.start) (entry a.start)
-gathering_ended a words e = ap (λ q. gathered_by q words a.storage a.keys) e ∙ ended a e
+pub gathering_ended : {S : Type 0} {entry : S → Machine} {stage : S → Steps (List ℕ)} (a : Asked entry stage ℕ) (n : ℕ)
+    {x : Counted Ending} (out : Step (List ℕ)) → a.answer ≡ Err x → IsErrAnd out (λ y. y ≡ x)
+    → told (first_words n out) a.storage a.keys ≡ seen (stage a.start) (entry a.start)
+gathering_ended a n out e f =
+    let p = err_from_is_err_and out f in
+    ap (λ y. told (first_words n y) a.storage a.keys) p.1
+    ∙ sym (ap (λ y. told y a.storage a.keys) p.1) ∙ handed a out e f
 
 -- ---- the stage that asked for the words
 
-pub gathered_later : (n : ℕ) (r : Stepped) (words s ks : List ℕ)
-    → gathered_by (later n r) words s ks ≡ more n (gathered_by r words s ks)
-gathered_later n (Value v c) words s ks = refl
-gathered_later n (Stopped e c) words s ks = refl
-
--- a place at which they were asked for: the last answer, told after the references before it
-pub record AskedWords {S A : Type 0} (entry : S → Machine) (stage : S → Steps A) : Type 0 where
-  pub start : S
-  pub step : Steps (List ℕ)
-  pub next : List ℕ → Steps A
-  pub count : ℕ
-  pub left : Machine
-  pub runs : Runs (entry start) (stage start) count left (step >>= next)
-  pub answer : Stepped
-  pub words : List ℕ
-  pub storage : List ℕ
-  pub keys : List ℕ
-  pub so : gathered_by answer words storage keys ≡ more count (seen step left)
-
-module _ {S A : Type 0} {entry : S → Machine} {stage : S → Steps A} where
-  abbrev pub asks_words : {c : ℕ} {m : Machine} (start : S) (p : Steps (List ℕ)) (k : List ℕ → Steps A)
-      → Runs (entry start) (stage start) c m (p >>= k) → (n : ℕ) (r : Gathered) (q : Stepped) (s ks : List ℕ)
-      → q ≡ later c r.last → gathered n r s ks ≡ seen p m → AskedWords entry stage
-  asks_words {c} {m} start p k h n r q s ks a f = record {
-    start = start;
-    step = p;
-    next = k;
-    count = c;
-    left = m;
-    runs = h;
-    answer = q;
-    words = take n r.words;
-    storage = s;
-    keys = ks;
-    so = ap (λ q. gathered_by q (take n r.words) s ks) a
-        ∙ gathered_later c r.last (take n r.words) s ks
-        ∙ ap (more c) f;
-  }
-
-  abbrev pub given_words : (a : AskedWords entry stage) {v c : ℕ} → a.answer ≡ Value v c → Reached entry stage
-  given_words a e =
-      reached a.start
-      (goes a.step a.next a.runs
-      (ap (λ q. gathered_by q a.words a.storage a.keys) (sym e) ∙ a.so))
-
-pub ended_without : {S : Type 0} {entry : S → Machine} {stage : S → Steps Completion} (x : Concluded)
-    (a : AskedWords entry stage) {e : Ending} {c : ℕ} → x ≡ ending a.answer → a.answer ≡ Stopped e c
-    → finished x a.storage a.keys ≡ finish (seen (stage a.start) (entry a.start))
-ended_without x a f e =
-    ended_by x a.storage a.keys a.answer f e
-    (ends a.step a.next a.runs
-    (ap (λ q. gathered_by q a.words a.storage a.keys) (sym e) ∙ a.so))
+pub first_later : (n c : ℕ) (r : Step (List ℕ)) → first_words n (later c r) ≡ later c (first_words n r)
+first_later n c (Ok words) = refl
+first_later n c (Err e) = refl

@@ -1,27 +1,21 @@
--- One turn of the loop that stores the words.
-use Prim.Native.Nat.{ℕ, suc, ◌+◌, ◌<◌, ◌≤◌}
-use native.Mathlib.Omega.{arith}
-use native.Mathlib.Numerals.{add-one}
-use mathlib.Core.Path.{◌≡◌, refl, ap}
-use mathlib.Core.List.{List, [], ◌∷◌}
-use lib.ListN.{length, get_or, take, drop, length-take}
-use lib.Seq.{drop-cons, get_or-take}
+-- The words that are stored, each at the real address found for it.
+use Rattle.std.proofs.Common.{◌≡◌, ℕ, suc, List, [], ◌∷◌, ◌⊎◌, inl, inr, length, refl, sym, ap, ◌∙◌, arith}
 use Rattle.rules.specs.Machine.{Machine}
 use Rattle.rules.specs.Writes.{store, perform, perform_all}
 use Rattle.rules.specs.StoreControl.{word_stores}
 
--- what is left of the first n of a list, from i on
-left_cons : (l : List ℕ) (n i : ℕ) → i < n → n ≤ length l
-    → drop i (take n l) ≡ get_or l i 0 ∷ drop (i + 1) (take n l)
-left_cons l n i h k =
-    let e : i < length (take n l) = rw length-take (omega arith) in
-    rw (add-one, drop-cons (take n l) i 0 e) (ap (λ (x : ℕ). x ∷ drop (suc i) (take n l)) (rw get_or-take))
+-- one store is made, and the others are left
+pub word_turn : (m l : Machine) (real value : ℕ) {reals values reals' values' : List ℕ} → reals ≡ real ∷ reals'
+    → values ≡ value ∷ values' → perform_all m (word_stores reals values) ≡ l
+    → perform_all (perform m (store real 4 value)) (word_stores reals' values') ≡ l
+word_turn m l real value e f h = simp (e, f) at h
 
-pub word_turn : (m l : Machine) (reals values : List ℕ) (n i : ℕ) → i < n → n ≤ length reals → n ≤ length values
-    → perform_all m (word_stores (drop i (take n reals)) (drop i (take n values))) ≡ l
-    → perform_all (perform m (store (get_or reals i 0) 4 (get_or values i 0)))
-    (word_stores (drop (i + 1) (take n reals)) (drop (i + 1) (take n values))) ≡ l
-word_turn m l reals values n i h j k e = simp (left_cons reals n i h j, left_cons values n i h k) at e
+-- none is left
+pub none_left : (reals values : List ℕ) → (length reals ≡ 0) ⊎ (length values ≡ 0) → word_stores reals values ≡ []
+none_left [] values h = refl
+none_left (x ∷ reals) [] h = refl
+none_left (x ∷ reals) (y ∷ values) (inl h) = absurd (omega arith)
+none_left (x ∷ reals) (y ∷ values) (inr h) = absurd (omega arith)
 
 -- as many stores as words
 pub stores_length : (reals values : List ℕ) → length reals ≡ length values

@@ -1,9 +1,8 @@
 -- Words gathered one after the other.
 use Rattle.std.specs.Prelude.{ℕ, List, take, Ok, Err}
-use Rattle.rules.specs.Run.{View}
-use Rattle.storage.specs.Answers.{machine, Step, went, over}
+use Rattle.storage.specs.Answers.{Step, counted}
 
--- the first n words, or the ending
-abbrev pub gathered : (n : ℕ) → Step (List ℕ) → (storage keys : List ℕ) → View (List ℕ)
-gathered n (Ok words) storage keys = went (take n words.value) words.count (machine storage keys)
-gathered n (Err e) storage keys = over e.value e.count (machine storage keys)
+-- the first n of the words that a step gives
+abbrev pub first_words : (n : ℕ) → Step (List ℕ) → Step (List ℕ)
+first_words n (Ok words) = Ok (counted (take n words.value) words.count)
+first_words n (Err e) = Err e

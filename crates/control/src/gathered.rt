@@ -1,8 +1,8 @@
 // Step 5: the registers fetched, then every operand word tested in rising order.
-ghost use Rattle.std.specs.Prelude.{◌<◌, ◌≤◌, ◌≡◌, IfOk, length};
+ghost use Rattle.std.specs.Prelude.{◌<◌, ◌≤◌, ◌≡◌};
 ghost use Rattle.rules.specs.StoreControl.{virtual_registers, operand_words};
-ghost use Rattle.storage.specs.Answers.{machine, seen};
-ghost use Rattle.control.specs.Gathered.{gathered};
+ghost use Rattle.storage.specs.Answers.{machine, told, seen};
+ghost use Rattle.control.specs.Gathered.{first_words};
 
 use rules::Guest;
 use storage::{After, Counted, Step};
@@ -16,9 +16,8 @@ pub(crate) fn virtual_registers(
     n: usize,
 ) -> Step<[u32; 16]>
     requires { (n ≤ 16) × (first < 16) }
-    ensures gathered { gathered n result storage.now keys.new
+    ensures { told (first_words n result) storage.now keys.new
         ≡ seen (virtual_registers ecblok first n) (machine storage.now keys.old) }
-    ensures room { IfOk result (λ words. length words.value ≡ 16) }
 {
     let mut words = Counted {
         value: [0u32; 16],
@@ -42,9 +41,8 @@ pub(crate) fn operand_words(
     n: usize,
 ) -> Step<[u32; 16]>
     requires { n ≤ 16 }
-    ensures gathered { gathered n result storage.now keys.new
+    ensures { told (first_words n result) storage.now keys.new
         ≡ seen (operand_words guest address n) (machine storage.now keys.old) }
-    ensures room { IfOk result (λ words. length words.value ≡ 16) }
 {
     let mut words = Counted {
         value: [0u32; 16],

@@ -8,7 +8,7 @@ pub(crate) fn store_words(storage: &mut [u8], keys: &mut [u8], reals: &[u32], va
     ensures { machine storage.new keys.new
         ≡ perform_all (machine storage.old keys.old) (word_stores reals.now values.now) }
 {
-    for (real, value) in reals.iter().zip(values) {
+    for (real, value) in reals.iter().zip(values.iter()) {
         storage::store_word(storage, keys, *real, *value);
     }
 }

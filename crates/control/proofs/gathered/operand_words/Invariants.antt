@@ -1,4 +1,3 @@
-use Rattle.std.proofs.Common.{◌-◌}
 use Rattle.rules.specs.Machine.{◌⊕◌}
 use Rattle.rules.specs.Access.{store_test}
 use Rattle.rules.specs.StoreControl.{operand_words}
@@ -8,7 +7,4 @@ use Rattle.control.proofs.gathered.operand_words.Given as goal
 abbrev pub invariant-loop-i : goal.invariant-loop-i
 invariant-loop-i l =
     Gathering (store_test l.guest) (λ a. a ⊕ 4) (operand_words l.guest l.address l.n) l.n l.storage l.initial.keys
-    l.keys l.words l.count l.at l.i
-
-abbrev pub decreases-loop-i : goal.decreases-loop-i
-decreases-loop-i l = l.n - l.i
+    l.keys l.words.value l.words.count l.at l.i

@@ -1,43 +1,34 @@
-use Rattle.std.proofs.Common.{refl, ◌∙◌, arith}
+use Rattle.std.proofs.Common.{◌≡◌, ℕ, ◌+◌, refl, arith}
 use Rattle.rules.specs.StoreControl.{virtual_registers}
 use Rattle.storage.specs.Answers.{machine}
 use Rattle.storage.proofs.Stages.{Asked, given}
 use Rattle.control.proofs.Turns.{gathering_none, asked_turn, gathering_more, gathering_all, gathering_ended}
 use Rattle.control.proofs.gathered.virtual_registers.Goals as goal
-use Rattle.control.proofs.gathered.virtual_registers.Goals.{After-after-fetched}
+use Rattle.control.proofs.gathered.virtual_registers.Goals.{After-after}
 
 -- the fetch of a turn
-abbrev fetched : (c : After-after-fetched)
+abbrev fetched : (c : After-after)
     → Asked {S = Unit {0}} (λ u. machine c.args.storage.now c.args.keys.now)
-    (λ u. virtual_registers c.args.ecblok c.args.first c.args.n)
+    (λ u. virtual_registers c.args.ecblok c.args.first c.args.n) ℕ
 fetched c =
-    asked_turn _ _ c.loop-i.invariant.0 c.loop-i-test.true c.control_word.result c.after-fetched.result
-    c.args.storage.now c.control_word.new.keys c.after-fetched.ensures (simp c.sum-at.ensures at c.control_word.ensures)
+    asked_turn _ _ c.loop-i.invariant c.loop-i-test.true c.control_field.result c.after.result
+    c.args.storage.now c.control_field.new.keys c.after.ensures (simp c.sum-at.ensures at c.control_field.ensures)
 
 pub loop-i-init : goal.loop-i-init
-loop-i-init c = (gathering_none _ _ _ _ _ _ _ refl, omega arith)
+loop-i-init c =
+    let e : c.args.first + 0 ≡ c.args.first = omega arith in rw e (gathering_none _ _ _ _ _ _ _ refl)
 
-pub shape_of-keys-in_default : goal.shape_of-keys-in_default
-shape_of-keys-in_default c = c.control_word.auto.keys ∙ c.loop-i.invariant.0.kept
-
-pub returns-in_default : goal.returns-in_default
-returns-in_default c = (
-  gathering_ended (fetched (goal.at.returns-in_default c).After-after-fetched) _ c.in_default.is,
-  c.loop-i.invariant.0.room,
-)
+pub returns-in_err-word : goal.returns-in_err-word
+returns-in_err-word c =
+    gathering_ended (fetched (goal.at.returns-in_err-word c).After-after) c.args.n
+    c.from_residual.result c.in_err-word.was c.from_residual.ensures.1
 
 pub loop-i-preserved : goal.loop-i-preserved
-loop-i-preserved c = (
-  gathering_more _ _ c.loop-i.invariant.0 _ _ c.loop-i-test.true (omega arith)
-      c.control_word.auto.keys
-      (given (fetched (goal.at.loop-i-preserved c).After-after-fetched) c.in-Value.is).runs,
-  omega arith,
-)
-
-pub shape_of-keys : goal.shape_of-keys
-shape_of-keys c = c.loop-i.invariant.0.kept
+loop-i-preserved c =
+    let l = c.loop-i in
+    let e : c.args.first + (l.i + 1) ≡ c.args.first + l.i + 1 = omega arith in
+    rw e (gathering_more _ _ l.invariant _ _ c.loop-i-test.true (omega arith) c.control_field.auto.keys
+    (given (fetched (goal.at.loop-i-preserved c).After-after) c.in_ok-word.was).runs)
 
 pub returns : goal.returns
-returns c =
-    let inv = c.loop-i.invariant.0 in
-    (gathering_all _ _ inv (omega arith), inv.room)
+returns c = gathering_all _ _ c.loop-i.invariant (omega arith)

@@ -1,16 +1,11 @@
-use Rattle.std.proofs.Common.{◌+◌, ◌-◌, ◌*◌, ◌%◌, ◌≤◌}
+use Rattle.std.proofs.Common.{◌+◌, ◌*◌, ◌%◌}
 use Rattle.rules.specs.Machine.{◌⊕◌}
 use Rattle.rules.specs.ControlFields.{control_word}
 use Rattle.rules.specs.StoreControl.{virtual_registers}
 use Rattle.control.proofs.Turns.{Gathering}
 use Rattle.control.proofs.gathered.virtual_registers.Given as goal
 
--- and r has gone on by i, so that it fits
 abbrev pub invariant-loop-i : goal.invariant-loop-i
 invariant-loop-i l =
     Gathering (λ r. control_word 5 (l.ecblok ⊕ 4 * (r % 16))) (λ r. r + 1) (virtual_registers l.ecblok l.first l.n) l.n
-    l.storage l.initial.keys l.keys l.words l.count l.r l.i
-    × (l.r ≤ 15 + l.i)
-
-abbrev pub decreases-loop-i : goal.decreases-loop-i
-decreases-loop-i l = l.n - l.i
+    l.storage l.initial.keys l.keys l.words.value l.words.count (l.first + l.i) l.i

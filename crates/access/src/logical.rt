@@ -27,10 +27,7 @@ fn key_test(keys: &mut [u8], kind: Access, psw_key: u32, real: u32) -> Step<u32>
     let outside = Ending::Interruption(Exception::Addressing);
     let key = storage::consult_key(keys, KeyUse::ForProtection, real / 2048, outside)?;
     if !passes(kind, psw_key, key.value) {
-        return Err(Counted {
-            value: Ending::Interruption(Exception::Protection),
-            count: key.count,
-        });
+        return storage::stop(Ending::Interruption(Exception::Protection), key.count);
     }
     Ok(Counted {
         value: real,
@@ -67,10 +64,7 @@ pub fn store_test(storage: &[u8], keys: &mut [u8], guest: Guest, at: u32) -> Ste
         ≡ seen (store_test guest at) (machine storage.now keys.old) }
 {
     if guest.protects_low(at) {
-        return Err(Counted {
-            value: Ending::Interruption(Exception::Protection),
-            count: 0,
-        });
+        return storage::stop(Ending::Interruption(Exception::Protection), 0);
     }
     access_test(storage, keys, Access::Store, guest, at)
 }

@@ -83,7 +83,7 @@ fn page_verdict(entry: Counted<u32>, format: Format, place: u32, at: u32) -> Wal
 }
 
 // By entries that are read so.
-pub fn page_walk<E: Entries>(
+pub(crate) fn page_walk<E: Entries>(
     storage: &[u8],
     keys: &mut [u8],
     entries: E,

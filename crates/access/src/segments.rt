@@ -5,8 +5,8 @@ ghost use Rattle.rules.specs.Translation.{segment_verdict, segment_walk, table_w
 ghost use Rattle.storage.specs.Answers.{machine, seen};
 ghost use Rattle.access.specs.Walks.{told_walk, Follows};
 
-use crate::pages::{page_entry_at, page_walk};
 use crate::entries::Entries;
+use crate::pages::{page_entry_at, page_walk};
 use crate::walks::{Walked, fault, walked};
 use rules::{Format, TableFault};
 use storage::{After, Counted};

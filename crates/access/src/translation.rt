@@ -42,7 +42,8 @@ fn exception(at: u32, fault: TableFault) -> Ending
     ensures { result ≡ exception at fault }
 {
     Ending::Interruption(match fault {
-        TableFault::SegmentTableLength | TableFault::SegmentInvalid => Exception::SegmentTranslation(at),
+        TableFault::SegmentTableLength | TableFault::SegmentInvalid =>
+            Exception::SegmentTranslation(at),
         TableFault::PageTableLength | TableFault::PageInvalid => Exception::PageTranslation(at),
         TableFault::SegmentFormat | TableFault::PageFormat => Exception::TranslationSpecification,
     })
@@ -66,13 +67,13 @@ pub(crate) fn translate(storage: &[u8], keys: &mut [u8], cr0: u32, cr1: u32, at:
         ≡ seen (translate cr0 cr1 at) (machine storage.now keys.old) }
 {
     let Some(format) = format_of(cr0) else {
-        return Err(Counted {
-            value: Ending::Interruption(Exception::TranslationSpecification),
-            count: 0,
-        });
+        return storage::stop(Ending::Interruption(Exception::TranslationSpecification), 0);
     };
     let entries = Real {
         missing: Ending::Interruption(Exception::Addressing),
     };
-    excepted(table_walk(storage, keys, entries, entries, format, cr1, at), at)
+    excepted(
+        table_walk(storage, keys, entries, entries, format, cr1, at),
+        at,
+    )
 }

@@ -42,9 +42,7 @@ impl Virtual {
             missing: Ending::FieldMissing(self.page),
         };
         let format = real_format(self.rseg);
-        faults_refused(table_walk(
-            storage, keys, segments, pages, format, self.rseg, at,
-        ))
+        faults_refused(table_walk(storage, keys, segments, pages, format, self.rseg, at))
     }
 }
 

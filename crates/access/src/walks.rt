@@ -21,9 +21,9 @@ pub type Walked = Result<Counted<u32>, Counted<WalkEnd>>;
 pub(crate) fn walked(step: Step<u32>) -> Walked
     ensures { result ≡ as_walk step }
 {
-    step.map_err(|end| Counted {
-        value: WalkEnd::Ended(end.value),
-        count: end.count,
+    step.map_err(|ending| Counted {
+        value: WalkEnd::Ended(ending.value),
+        count: ending.count,
     })
 }
 

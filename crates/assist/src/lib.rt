@@ -1,18 +1,18 @@
 // One attempt of the virtual-machine assist: document 01, "The numbered endings".
 #![tactic(auto)]
 
-ghost use Rattle.std.specs.Prelude.{◌≤◌, ◌≡◌, Err, length};
+ghost use Rattle.std.specs.Prelude.{◌≤◌, ◌≡◌, length};
 ghost use Rattle.operations.specs.Operations.{begins_assisted};
 ghost use Rattle.rules.specs.Endings.{numbers};
 ghost use Rattle.rules.specs.Call.{operation_byte};
 ghost use Rattle.rules.specs.Attempt.{instruction, program};
-ghost use Rattle.storage.specs.Answers.{machine, counted, seen, finished, finish};
+ghost use Rattle.storage.specs.Answers.{machine, seen, finished, finish};
 ghost use Rattle.assist.specs.Attempted.{answer_of, attempted};
 ghost use Rattle.assist.specs.Changes.{change_by};
 
 use crate::admission::{is_assisted, is_odd, is_wrong_keys, is_wrong_mode, is_wrong_storage};
 use rules::{Answer, Call, Ending, Guest, MaskChange, RecordChange};
-use storage::{Counted, Step};
+use storage::Step;
 
 mod admission;
 
@@ -64,31 +64,21 @@ fn program(storage: &mut [u8], keys: &mut [u8], call: Call, marked: bool) -> Ste
         (machine storage.old keys.old)) }
 {
     if is_wrong_storage(storage.len()) {
-        return turned_away(Ending::WrongStorageSize);
+        return storage::stop(Ending::WrongStorageSize, 0);
     }
     if is_wrong_keys(storage.len(), keys.len()) {
-        return turned_away(Ending::WrongKeyCount);
+        return storage::stop(Ending::WrongKeyCount, 0);
     }
     if is_odd(call.guest) {
-        return turned_away(Ending::OddInstructionAddress);
+        return storage::stop(Ending::OddInstructionAddress, 0);
     }
     if !is_assisted(call, marked) {
-        return turned_away(Ending::NotAssisted);
+        return storage::stop(Ending::NotAssisted, 0);
     }
     if is_wrong_mode(call.guest) {
-        return turned_away(Ending::WrongMode);
+        return storage::stop(Ending::WrongMode, 0);
     }
     instruction(storage, keys, call)
-}
-
-// No reference was made.
-fn turned_away(ending: Ending) -> Step<RecordChange>
-    ensures { result ≡ Err (counted ending 0) }
-{
-    Err(Counted {
-        value: ending,
-        count: 0,
-    })
 }
 
 // The answer: completion hands the record back changed and moved on by so many bytes, any other ending as it was.

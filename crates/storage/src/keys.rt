@@ -3,7 +3,7 @@ ghost use Rattle.std.specs.Prelude.{◌≡◌, ℕ, List};
 ghost use Rattle.rules.specs.Steps.{consult_key};
 ghost use Rattle.storage.specs.Answers.{machine, told, seen};
 
-use crate::steps::{Counted, Step};
+use crate::steps::{Counted, Step, stop};
 use rules::{Ending, KeyUse};
 
 // The key of a block, as it is seen for this use, or the ending if the block is not in storage.
@@ -12,10 +12,7 @@ pub fn consult_key(keys: &mut [u8], for_use: KeyUse, block: u32, missing: Ending
         told result s keys.new ≡ seen (consult_key for_use block missing) (machine s keys.old) }
 {
     let Some(key) = keys.get(block as usize) else {
-        return Err(Counted {
-            value: missing,
-            count: 0,
-        });
+        return stop(missing, 0);
     };
     Ok(Counted {
         value: for_use.seen_as(u32::from(*key)),

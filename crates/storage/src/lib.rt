@@ -16,5 +16,5 @@ pub use answers::{completed, completed_as};
 pub use fetches::Item;
 pub use keys::consult_key;
 pub use recording::{Access, is_across, record_byte, record_word};
-pub use steps::{After, Counted, Step, fetch, refuse, refused};
+pub use steps::{After, Counted, Step, fetch, refuse, refused, stop};
 pub use stores::{store_byte, store_word};

@@ -39,14 +39,21 @@ impl<T, E> After for Result<Counted<T>, Counted<E>> {
     }
 }
 
-// Document 01's "refuse", after so many references.
+// This ending, after so many references.
+pub fn stop<T>(ending: Ending, count: u32) -> Step<T>
+    ensures { result ≡ Err (counted ending count) }
+{
+    Err(Counted {
+        value: ending,
+        count,
+    })
+}
+
+// Document 01's "refuse".
 pub fn refuse<T>(count: u32) -> Step<T>
     ensures { result ≡ Err (counted refuse count) }
 {
-    Err(Counted {
-        value: Ending::Interruption(Exception::PrivilegedOperation),
-        count,
-    })
+    stop(Ending::Interruption(Exception::PrivilegedOperation), count)
 }
 
 // An answer with every ending turned into it.
@@ -63,9 +70,6 @@ pub fn fetch<T: Item>(storage: &[u8], keys: &mut [u8], at: u32, missing: Ending)
 {
     match T::read(storage, keys, at) {
         Some(value) => Ok(Counted { value, count: 1 }),
-        None => Err(Counted {
-            value: missing,
-            count: 0,
-        }),
+        None => stop(missing, 0),
     }
 }

@@ -11,7 +11,7 @@ pub returns-in_default : goal.returns-in_default
 unfolding translate
 returns-in_default c =
     let m = machine c.args.storage.now c.args.keys.now in
-    unformed _ _ _ (begin m _) c.format_of.result (c.format_of.ensures _ m) c.in_default.is
+    rw c.stop.ensures (unformed _ _ _ (begin m _) c.format_of.result (c.format_of.ensures _ m) c.in_default.is)
 
 pub returns : goal.returns
 unfolding translate

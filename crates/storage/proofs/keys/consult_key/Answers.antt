@@ -5,7 +5,7 @@ use Rattle.storage.proofs.keys.consult_key.Goals as goal
 
 pub returns-in_default : goal.returns-in_default
 unfolding consult_key seen
-returns-in_default c = λ s. simp (sym (c.in_default.ensures).lookup.0)
+returns-in_default c = λ s. simp (c.stop.ensures, sym (c.in_default.ensures).lookup.0)
 
 pub returns : goal.returns
 unfolding consult_key seen

@@ -8,6 +8,6 @@ pub returns : goal.returns
 unfolding segment_of
 returns c =
     let a = c.args in
-    walk_ended (λ fault. refuse) c.segment_walk.result c.or_refuse.result a.storage.now
-    c.segment_walk.new.keys _ (machine a.storage.now a.keys.now) c.or_refuse.ensures
+    walk_ended (λ fault. refuse) c.segment_walk.result c.faults_refused.result a.storage.now
+    c.segment_walk.new.keys _ (machine a.storage.now a.keys.now) c.faults_refused.ensures
     c.segment_walk.ensures

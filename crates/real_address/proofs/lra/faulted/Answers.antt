@@ -9,7 +9,7 @@ returns-in-SegmentInvalid c = λ s ks. simp c.in-SegmentInvalid.is (c.loaded-in-
 
 pub returns-in-SegmentFormat : goal.returns-in-SegmentFormat
 unfolding seen
-returns-in-SegmentFormat c = λ s ks. simp c.in-SegmentFormat.is
+returns-in-SegmentFormat c = λ s ks. simp (c.in-SegmentFormat.is, c.refuse.ensures)
 
 pub returns-in-PageTableLength : goal.returns-in-PageTableLength
 returns-in-PageTableLength c = λ s ks. simp c.in-PageTableLength.is (c.loaded-in-PageTableLength.ensures s ks)
@@ -19,4 +19,4 @@ returns-in-PageInvalid c = λ s ks. simp c.in-PageInvalid.is (c.loaded-in-PageIn
 
 pub returns-in-PageFormat : goal.returns-in-PageFormat
 unfolding seen
-returns-in-PageFormat c = λ s ks. simp c.in-PageFormat.is
+returns-in-PageFormat c = λ s ks. simp (c.in-PageFormat.is, c.refuse-in-PageFormat.ensures)

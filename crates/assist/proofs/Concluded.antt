@@ -15,8 +15,8 @@ use Rattle.rules.specs.Run.{Outcome, ended, gave, View}
 use Rattle.rules.specs.Call.{operation_byte, Completion}
 use Rattle.rules.specs.Attempt.{program, Result, conclude, reading, attempt}
 use Rattle.rules.proofs.Theorems.Count.{count_bounded}
-use Rattle.storage.specs.declared.answers.Concluded.TheVariants.{Complete, Ended}
-use Rattle.storage.specs.Answers.{seen, Finished, finish}
+use Rattle.std.proofs.Common.{Ok, Err}
+use Rattle.storage.specs.Answers.{counted, seen, Finished, finish}
 use Rattle.assist.specs.Attempted.{answer_of}
 
 -- what anybody can see of a result
@@ -36,13 +36,13 @@ concluded : (m : Machine) (c : Call) (rs : List Reference) (o : Outcome Completi
     shown c (finish v) ≡ visible (conclude m c rs o)
 concluded m c rs (ended e) h =
     let z : length rs % 2 ^ 32 ≡ length rs = omega arith in
-    ap (λ n. shown c (record { answer = Ended e n; after = noted_all m rs })) z
+    ap (λ n. shown c (record { answer = Err (counted e n); after = noted_all m rs })) z
 concluded m c rs (gave k) h =
     let ws = k.writes in
     let all : length rs + length ws ≡ length (rs ++ map entry ws) = simp (length-append, length-map) in
     let z : (length rs % 2 ^ 32 + length ws) % 2 ^ 32 ≡ length (rs ++ map entry ws) = omega arith in
     let after = perform_all (noted_all m rs) ws in
-    ap (λ n. shown c (record { answer = Complete k.change n; after = after })) z
+    ap (λ n. shown c (record { answer = Ok (counted k.change n); after = after })) z
 
 pub attempts : (m : Machine) (c : Call)
     → shown c (finish (seen (program (length m.storage) (length m.keys) c) m)) ≡ visible (attempt m c)

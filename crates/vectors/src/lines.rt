@@ -8,6 +8,7 @@ use rules::Guest;
 // What follows the first character of the longest line.
 pub(crate) const LONGEST: usize = 190;
 
+// A line's kind.
 #[derive(Clone, Copy)]
 pub(crate) enum Kind {
     Comment,
@@ -65,13 +66,16 @@ impl Kind {
     }
 }
 
+// What a line says.
 pub(crate) enum Line<'a> {
-    // what follows the `#`
+    // the text after the `#`
     Comment(&'a [u8]),
+    // a new storage, of so many bytes and keys
     Storage {
         size: u32,
         keys: u32,
     },
+    // four bytes of storage from the address on, or the one there
     Word {
         address: u32,
         word: u32,
@@ -80,6 +84,7 @@ pub(crate) enum Line<'a> {
         address: u32,
         byte: u8,
     },
+    // four keys from this number on, or the one with it
     Keys {
         number: u32,
         keys: u32,
@@ -102,8 +107,7 @@ pub(crate) enum Line<'a> {
 
 // The line of this kind, by what follows its first character.
 pub(crate) fn parse(kind: Kind, text: &[u8]) -> Result<Line<'_>, Trouble> {
-    let fields = text.strip_suffix(b"\n").ok_or(Trouble::Form)?;
-    let mut rest = Fields::new(fields);
+    let mut rest = Fields::new(text.strip_suffix(b"\n").ok_or(Trouble::Form)?);
     match kind {
         Kind::Comment => Ok(Line::Comment(text)),
         Kind::Storage => Ok(Line::Storage {

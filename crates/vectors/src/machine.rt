@@ -7,6 +7,7 @@ use rules::{Answer, Guest};
 pub(crate) struct Machine<'a> {
     pub(crate) storage: Area<'a>,
     pub(crate) keys: Area<'a>,
+    // the record, once a line has given it
     pub(crate) guest: Option<Guest>,
     // calls made
     pub(crate) calls: u32,
@@ -35,10 +36,8 @@ impl<'a> Machine<'a> {
         self.calls = self.calls.wrapping_add(1);
         let over_storage = checksum::over(checksum::START, storage);
         let over_keys = checksum::over(over_storage, keys);
-        Ok((
-            answer,
-            checksum::finish(over_guest(over_keys, answer.guest)),
-        ))
+        let sum = checksum::finish(over_guest(over_keys, answer.guest));
+        Ok((answer, sum))
     }
 }
 

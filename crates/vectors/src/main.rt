@@ -26,7 +26,8 @@ const LARGE_STORAGE_BYTES: usize = 16779264;
 // More than the 8,193 keys of that storage.
 const KEY_COUNT: usize = 8448;
 
-// It stays a function of its own, so that only the run that is made takes the stack of its storage.
+// A run in so much storage. It isn't inlined into `main`, whose stack would then hold the storage of both runs. No array
+// takes 2^63 bytes.
 #[inline(never)]
 fn run_in<const BYTES: usize, R: Input + Print>(rt: &R) -> io::Result<()>
     requires { BYTES < 2 ^ 63 }

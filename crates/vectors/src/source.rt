@@ -54,12 +54,13 @@ impl<R: Read> Source<R> {
 
     // The first character of the next line.
     fn first(&mut self) -> Result<u8, Stop> {
-        let mut first = [0u8];
         self.line = self.line.wrapping_add(1);
+        let mut first = [0u8];
         self.fill(&mut first)?;
         Ok(first[0])
     }
 
+    // Fills the text from the input.
     fn fill(&mut self, text: &mut [u8]) -> Result<(), Stop> {
         match self.input.read_exact(text) {
             Ok(()) => Ok(()),

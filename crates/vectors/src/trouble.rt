@@ -1,9 +1,10 @@
 // Why a run stops before its input has ended well.
+use std::error::Error;
 use std::num::TryFromIntError;
 use std::{fmt, io};
 
 // What is wrong with the input: docs/VECTORS.md, "What is printed".
-#[derive(Clone, Copy, Debug, PartialEq, Eq)]
+#[derive(Clone, Copy, Debug)]
 pub(crate) enum Trouble {
     Kind,
     Ends,
@@ -32,7 +33,9 @@ impl fmt::Display for Trouble {
     }
 }
 
-// A field of so few digits that its number fits has one that doesn't.
+impl Error for Trouble {}
+
+// A number that its field has no room for. None comes: two digits fit a byte, and four a halfword.
 impl From<TryFromIntError> for Trouble {
     fn from(_e: TryFromIntError) -> Trouble {
         Trouble::Form

@@ -31,9 +31,9 @@ impl<'a> Area<'a> {
     // Puts these bytes from place `at` on, where all their places are there.
     pub(crate) fn put(&mut self, at: u32, bytes: &[u8]) -> Result<(), Trouble> {
         let start = at as usize;
-        let places = self.bytes().ok_or(Trouble::Place)?;
-        let (_, rest) = places.split_at_mut_checked(start).ok_or(Trouble::Place)?;
-        let part = rest.get_mut(..bytes.len()).ok_or(Trouble::Place)?;
+        let places = start..start + bytes.len();
+        let there = self.bytes().ok_or(Trouble::Place)?;
+        let part = there.get_mut(places).ok_or(Trouble::Place)?;
         part.copy_from_slice(bytes);
         Ok(())
     }

@@ -26,8 +26,8 @@ const LARGE_STORAGE_BYTES: usize = 16779264;
 // More than the 8,193 keys of that storage.
 const KEY_COUNT: usize = 8448;
 
-// A run in so much storage. It isn't inlined into `main`, whose stack would then hold the storage of both runs. No array
-// takes 2^63 bytes.
+// A run in so much storage; no array takes 2^63 bytes. It isn't inlined into `main`, whose stack would then hold the
+// storage of both runs.
 #[inline(never)]
 fn run_in<const BYTES: usize, R: Input + Print>(rt: &R) -> io::Result<()>
     requires { BYTES < 2 ^ 63 }

@@ -15,6 +15,7 @@ impl<'a> Area<'a> {
 
     // So many bytes, all zero.
     pub(crate) fn give(&mut self, count: u32) -> Result<(), Trouble> {
+        // by `as`, here and in `put`: no `From` makes a `usize` of a `u32`
         let count = count as usize;
         let bytes = self.room.get_mut(..count).ok_or(Trouble::Room)?;
         bytes.fill(0);

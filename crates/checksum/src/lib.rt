@@ -22,26 +22,16 @@ pub fn over(register: u32, bytes: &[u8]) -> u32
 {
     // the constant is copied where it is named: once here, and not for each byte
     let table = STEPS;
-    let mut now = register;
-    let mut i = 0;
-    while i < bytes.len() {
-        now = after(&table, now, bytes[i]);
-        i += 1;
-    }
-    now
+    bytes
+        .iter()
+        .fold(register, |now, &byte| after(&table, now, byte))
 }
 
 // The register after a word, big-endian.
 pub fn over_word(register: u32, word: u32) -> u32
     ensures { result ≡ over_bytes register (bytes_of word) }
 {
-    let bytes = [
-        (word / 16777216) as u8,
-        (word / 65536 % 256) as u8,
-        (word / 256 % 256) as u8,
-        (word % 256) as u8,
-    ];
-    over(register, &bytes)
+    over(register, &word.to_be_bytes())
 }
 
 // The checksum itself.
@@ -55,8 +45,9 @@ fn after(table: &[u32; 32], register: u32, byte: u8) -> u32
     requires { table.now ≡ steps }
     ensures { result ≡ after_byte register byte }
 {
+    // the register's last byte by `%`, as in `after_byte`: `to_be_bytes` would be no plainer for one
     let next = (register % 256) as u8 ^ byte;
-    let right = (next % 16) as usize;
-    let left = (next / 16 % 16) as usize;
+    let right = usize::from(next % 16);
+    let left = usize::from(next / 16 % 16);
     table[right] ^ table[16 + left] ^ register / 256
 }

@@ -1,207 +1,172 @@
-// A line of the input, and what it leads to: docs/VECTORS.md, "A file of calls".
+// The lines of the input: docs/VECTORS.md, "A file of calls".
 ghost use Rattle.std.specs.Prelude.{◌≤◌};
 
-use crate::digits::{Number, field};
-use crate::state::{State, Step, Trouble};
-use crate::{bytes, calls, report};
-use std::io;
-use std::io::{ErrorKind, Read};
+use crate::fields::Fields;
+use crate::trouble::Trouble;
+use rules::Guest;
 
 // What follows the first character of the longest line.
-const LONGEST: usize = 190;
+pub(crate) const LONGEST: usize = 190;
 
-// Fills the line from the input; false where the input ends before.
-pub(crate) fn whole(input: &mut impl Read, line: &mut [u8]) -> io::Result<bool> {
-    match input.read_exact(line) {
-        Ok(()) => Ok(true),
-        Err(e) if e.kind() == ErrorKind::UnexpectedEof => Ok(false),
-        Err(e) => Err(e),
+// A line's kind.
+#[derive(Clone, Copy)]
+pub(crate) enum Kind {
+    Comment,
+    Storage,
+    Word,
+    Byte,
+    Keys,
+    Key,
+    Record,
+    Call,
+    End,
+}
+
+// By the first character.
+impl TryFrom<u8> for Kind {
+    type Error = Trouble;
+
+    fn try_from(first: u8) -> Result<Kind, Trouble> {
+        match first {
+            b'#' => Ok(Kind::Comment),
+            b's' => Ok(Kind::Storage),
+            b'w' => Ok(Kind::Word),
+            b'b' => Ok(Kind::Byte),
+            b'q' => Ok(Kind::Keys),
+            b'k' => Ok(Kind::Key),
+            b'r' => Ok(Kind::Record),
+            b'a' => Ok(Kind::Call),
+            b'e' => Ok(Kind::End),
+            _ => Err(Trouble::Kind),
+        }
     }
 }
 
-// How many characters follow the first; more than any line has where there is no such kind.
-fn length_of(kind: u8) -> usize {
+impl Kind {
+    // How many characters follow the first.
+    pub(crate) fn length(self) -> usize
+        ensures { result ≤ 190 }
+    {
+        match self {
+            Kind::Comment => 79,
+            Kind::Storage | Kind::End => 19,
+            Kind::Word | Kind::Keys | Kind::Call => 17,
+            Kind::Byte | Kind::Key => 11,
+            Kind::Record => LONGEST,
+        }
+    }
+
+    // How many of them the checksum covers: all but the checksum itself.
+    pub(crate) fn covered(self) -> usize {
+        match self {
+            Kind::Call => 7,
+            Kind::End => 9,
+            _ => LONGEST,
+        }
+    }
+}
+
+// What a line says.
+pub(crate) enum Line<'a> {
+    // the text after the `#`
+    Comment(&'a [u8]),
+    // a new storage, of so many bytes and keys
+    Storage {
+        size: u32,
+        keys: u32,
+    },
+    // four bytes of storage from the address on, or the one there
+    Word {
+        address: u32,
+        word: u32,
+    },
+    Byte {
+        address: u32,
+        byte: u8,
+    },
+    // four keys from this number on, or the one with it
+    Keys {
+        number: u32,
+        keys: u32,
+    },
+    Key {
+        number: u32,
+        key: u8,
+    },
+    Record(Guest),
+    Call {
+        first: u16,
+        installed: bool,
+        sum: u32,
+    },
+    End {
+        calls: u32,
+        sum: u32,
+    },
+}
+
+// The line of this kind, by what follows its first character.
+pub(crate) fn parse(kind: Kind, text: &[u8]) -> Result<Line<'_>, Trouble> {
+    let mut rest = Fields::new(text.strip_suffix(b"\n").ok_or(Trouble::Form)?);
     match kind {
-        b'#' => 79,
-        b's' | b'e' => 19,
-        b'w' | b'q' | b'a' => 17,
-        b'b' | b'k' => 11,
-        b'r' => LONGEST,
-        _ => LONGEST + 1,
+        Kind::Comment => Ok(Line::Comment(text)),
+        Kind::Storage => Ok(Line::Storage {
+            size: rest.number(8)?,
+            keys: rest.number(8)?,
+        }),
+        Kind::Word => Ok(Line::Word {
+            address: rest.number(6)?,
+            word: rest.number(8)?,
+        }),
+        Kind::Byte => Ok(Line::Byte {
+            address: rest.number(6)?,
+            byte: u8::try_from(rest.number(2)?)?,
+        }),
+        Kind::Keys => Ok(Line::Keys {
+            number: rest.number(6)?,
+            keys: rest.number(8)?,
+        }),
+        Kind::Key => Ok(Line::Key {
+            number: rest.number(6)?,
+            key: u8::try_from(rest.number(2)?)?,
+        }),
+        Kind::Record => Ok(Line::Record(record(&mut rest)?)),
+        Kind::Call => call(&mut rest),
+        Kind::End => Ok(Line::End {
+            calls: rest.number(8)?,
+            sum: rest.number(8)?,
+        }),
     }
 }
 
-fn fields_of(kind: u8) -> usize
-    ensures { result ≤ 21 }
-{
-    match kind {
-        b'#' => 0,
-        b'a' => 3,
-        b'r' => 21,
-        _ => 2,
-    }
-}
-
-// How many digits the field with this number, from 0, has.
-fn digits_of(kind: u8, number: usize) -> usize
-    ensures { result ≤ 8 }
-{
-    match kind {
-        b'w' | b'q' => if number == 0 { 6 } else { 8 },
-        b'b' | b'k' => if number == 0 { 6 } else { 2 },
-        b'a' => match number {
-            0 => 4,
-            1 => 1,
-            _ => 8,
-        },
-        _ => 8,
-    }
-}
-
-// The characters that the checksum covers: all but the checksum itself.
-fn covered(kind: u8) -> usize {
-    match kind {
-        b'a' => 7,
-        b'e' => 9,
-        _ => LONGEST,
-    }
-}
-
-fn at_most(n: usize, most: usize) -> usize
-    ensures { result ≤ most }
-{
-    if n < most {
-        return n;
-    }
-    most
-}
-
-// The numbers of a line; false where it isn't of the form that its kind has.
-fn fields(line: &[u8], kind: u8, numbers: &mut [u32; 21]) -> bool {
-    let count = fields_of(kind);
-    let mut at = 0;
-    for i in 0..count {
-        let digits = digits_of(kind, i);
-        let Number::Value(number) = field(line, at, digits) else {
-            return false;
-        };
-        numbers[i] = number;
-        at += digits + 1;
-    }
-    let n = line.len();
-    n > 0 && line[n - 1] == b'\n'
-}
-
-// Reads a line: its numbers, and into the state its kind and the checksum after it.
-fn read(
-    rt: &impl Print,
-    input: &mut impl Read,
-    numbers: &mut [u32; 21],
-    state: State,
-) -> io::Result<Step> {
-    let mut first = [0u8; 1];
-    let mut longest = [0u8; LONGEST];
-    if !whole(input, &mut first)? {
-        return Ok(Step::Stopped(Trouble::Ends));
-    }
-    let mut next = state;
-    next.lines = std::num::wrapping_add_u64(state.lines, 1);
-    next.kind = first[0];
-    next.sum = checksum::over(state.sum, &first);
-    read_kind(rt, input, &mut longest, numbers, next)
-}
-
-fn read_kind(
-    rt: &impl Print,
-    input: &mut impl Read,
-    longest: &mut [u8],
-    numbers: &mut [u32; 21],
-    state: State,
-) -> io::Result<Step> {
-    let length = length_of(state.kind);
-    if length > longest.len() {
-        return Ok(Step::Stopped(Trouble::Kind));
-    }
-    read_rest(rt, input, &mut longest[0..length], numbers, state)
-}
-
-// What follows the first character. A comment is printed as it stands.
-fn read_rest(
-    rt: &impl Print,
-    input: &mut impl Read,
-    line: &mut [u8],
-    numbers: &mut [u32; 21],
-    state: State,
-) -> io::Result<Step> {
-    let kind = state.kind;
-    if !whole(input, line)? {
-        return Ok(Step::Stopped(Trouble::Ends));
-    }
-    if !fields(line, kind, numbers) {
-        return Ok(Step::Stopped(Trouble::Form));
-    }
-    if kind == b'#' {
-        report::print(rt, b"#")?;
-        report::print(rt, line)?;
-    }
-    let mut next = state;
-    let end = at_most(covered(kind), line.len());
-    next.sum = checksum::over(state.sum, &line[0..end]);
-    Ok(Step::Next(next))
-}
-
-// One line of the input, and what it does.
-pub(crate) fn step(
-    rt: &impl Print,
-    input: &mut impl Read,
-    storage: &mut [u8],
-    keys: &mut [u8],
-    record: &mut [u32; 21],
-    state: State,
-) -> io::Result<Step> {
-    let mut numbers = [0u32; 21];
-    let line = read(rt, input, &mut numbers, state)?;
-    let Step::Next(next) = line else {
-        return Ok(line);
+// The first halfword, whether the expanded assist is installed, and the checksum.
+fn call<'a>(rest: &mut Fields<'_>) -> Result<Line<'a>, Trouble> {
+    let first = u16::try_from(rest.number(4)?)?;
+    let installed = match rest.number(1)? {
+        0 => false,
+        1 => true,
+        _ => return Err(Trouble::Form),
     };
-    let a = numbers[0];
-    let b = numbers[1];
-    let kind = next.kind;
-    Ok(match kind {
-        b's' => new_storage(bytes::clear(storage, a) & bytes::clear(keys, b), a, b, next),
-        b'w' | b'b' => stored(bytes::put(storage, next.size, a, b, bytes_of(kind)), next),
-        b'q' | b'k' => stored(bytes::put(keys, next.keys, a, b, bytes_of(kind)), next),
-        b'r' => calls::new_record(record, &numbers, next),
-        b'a' => calls::call(rt, storage, keys, record, &numbers, next)?,
-        b'e' => calls::end(a, b, next),
-        _ => Step::Next(next),
+    Ok(Line::Call {
+        first,
+        installed,
+        sum: rest.number(8)?,
     })
 }
 
-// A new storage, all zero, if there is room for it.
-fn new_storage(has_room: bool, size: u32, keys: u32, state: State) -> Step {
-    if !has_room {
-        return Step::Stopped(Trouble::Room);
+// PSW bits 0-31, PSW bits 32-63, general registers 0 to 15, control registers 0, 1 and 6.
+fn record(rest: &mut Fields<'_>) -> Result<Guest, Trouble> {
+    let high = u64::from(rest.number(8)?);
+    let low = u64::from(rest.number(8)?);
+    let mut general = [0u32; 16];
+    for register in general.iter_mut() {
+        *register = rest.number(8)?;
     }
-    let mut next = state;
-    next.size = size;
-    next.keys = keys;
-    next.has_storage = true;
-    Step::Next(next)
-}
-
-// Four bytes of storage, or four keys, in lines of one kind; one in those of the other.
-fn bytes_of(kind: u8) -> u32 {
-    match kind {
-        b'w' | b'q' => 4,
-        _ => 1,
-    }
-}
-
-fn stored(is_there: bool, state: State) -> Step {
-    if is_there {
-        Step::Next(state)
-    } else {
-        Step::Stopped(Trouble::Place)
-    }
+    Ok(Guest {
+        psw: high << 32 | low,
+        general,
+        cr0: rest.number(8)?,
+        cr1: rest.number(8)?,
+        cr6: rest.number(8)?,
+    })
 }

@@ -4,8 +4,8 @@ use crate::places::{
     SEGMENT_TABLE, SWAP_TABLE, VIRTUAL_PSW,
 };
 use crate::registers::{
-    EXPANDED_ASSIST, LOW_ADDRESS_PROTECTION, PAGES_4K_SEGMENTS_64K, PSW_ADDRESS, PSW_CODE,
-    PSW_CODE_1_MASK_A, PSW_CODE_2, PSW_DAT, PSW_EC_PROBLEM, PSW_KEY_1,
+    EXPANDED_ASSIST, LOW_ADDRESS_PROTECTION, PAGES_4K_SEGMENTS_64K, PSW_ADDRESS, PSW_CODE, PSW_DAT,
+    PSW_EC_PROBLEM, PSW_KEY_1, PSW_MASK_A,
 };
 use rules::{Call, Guest};
 
@@ -18,6 +18,7 @@ const USUAL_SIZE: usize = 0x4000;
 
 const DISPLACEMENT: u32 = 0x010;
 
+// There is no heap: an edge has room for so many words, and for the keys of the usual size.
 const WORD_ROOM: usize = 32;
 
 const KEY_ROOM: usize = 8;
@@ -158,15 +159,15 @@ impl Edge {
         self.word(SWAP_TABLE + 8 * 3, word)
     }
 
-    // The condition code is 1, the program mask 1010.
-    pub(crate) fn condition_code_1(mut self) -> Edge {
-        self.call.guest.psw |= PSW_CODE_1_MASK_A;
+    // PSW bits 18-19.
+    pub(crate) fn condition_code(mut self, code: u64) -> Edge {
+        self.call.guest.psw = self.call.guest.psw & !PSW_CODE | code << 44;
         self
     }
 
-    // The condition code is 2: before a call that sets 1.
-    pub(crate) fn condition_code_2(mut self) -> Edge {
-        self.call.guest.psw = self.call.guest.psw & !PSW_CODE | PSW_CODE_2;
+    // PSW bits 20-23 are 1010.
+    pub(crate) fn program_mask_a(mut self) -> Edge {
+        self.call.guest.psw |= PSW_MASK_A;
         self
     }
 

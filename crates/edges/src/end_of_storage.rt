@@ -5,6 +5,9 @@ use crate::places::{LAST_HALFWORD, LAST_WORD, MICVPSW, REAL_PAGE_TABLE};
 use crate::run::Bench;
 use std::io;
 
+// The swap table whose word of page 3 is the last word of storage.
+const LAST_SWAP_TABLE: u32 = LAST_WORD - 8 * 3;
+
 pub(crate) fn run_end_of_storage(bench: &mut Bench<'_, impl Print>) -> io::Result<()> {
     run_virtual_psw(bench)?;
     run_set_storage_key(bench)?;
@@ -39,19 +42,19 @@ fn run_set_storage_key(bench: &mut Bench<'_, impl Print>) -> io::Result<()> {
     bench.run_each(&[
         (
             "SSK   swap word in the last word of storage",
-            last_swap_word(Edge::ssk(), 0x50112233),
+            swap_table(Edge::ssk(), LAST_SWAP_TABLE, 0x50112233),
         ),
         (
             "SSK   swap word one byte on, its last byte not in storage",
-            beyond_swap_word(Edge::ssk(), 0x00501122),
+            swap_table(Edge::ssk(), LAST_SWAP_TABLE + 1, 0x00501122),
         ),
         (
             "SSK   key of the last block, swap word in that block",
-            last_frame(last_swap_word(Edge::ssk(), 0x50112233)).r2(0x5A023800),
+            last_frame(swap_table(Edge::ssk(), LAST_SWAP_TABLE, 0x50112233)).r2(0x5A023800),
         ),
         (
             "SSK   invalid page, swap word in the last word of storage",
-            last_swap_word(Edge::ssk(), 0x50112233).page(0x0018),
+            swap_table(Edge::ssk(), LAST_SWAP_TABLE, 0x50112233).page(0x0018),
         ),
     ])
 }
@@ -60,13 +63,13 @@ fn run_reset_reference_bit(bench: &mut Bench<'_, impl Print>) -> io::Result<()> 
     bench.run_each(&[
         (
             "RRB   key of the last block, swap word in that block",
-            last_frame(last_swap_word(Edge::rrb(0xFB, 0x50C3FDFF), 0x50C3FFFD))
+            last_frame(swap_table(Edge::rrb(0xFB, 0x50C3FDFF), LAST_SWAP_TABLE, 0x50C3FFFD))
                 .operand(0x023800)
                 .key(7, 0xFF),
         ),
         (
             "RRB   swap word one byte on, its last byte not in storage",
-            beyond_swap_word(Edge::rrb(0xFB, 0x50C3FDFF), 0x0050C3FD),
+            swap_table(Edge::rrb(0xFB, 0x50C3FDFF), LAST_SWAP_TABLE + 1, 0x0050C3FD),
         ),
     ])
 }
@@ -76,16 +79,10 @@ fn last_virtual_psw(edge: Edge, halfword: u16) -> Edge {
         .halfword(LAST_HALFWORD, halfword)
 }
 
-// The word of page 3 is 18 (hex) bytes from the swap table's start.
-fn last_swap_word(edge: Edge, word: u32) -> Edge {
-    edge.word(REAL_PAGE_TABLE - 4, LAST_WORD - 0x18)
-        .word(LAST_WORD, word)
-}
-
-// One byte on, with the first three bytes of the word.
-fn beyond_swap_word(edge: Edge, bytes: u32) -> Edge {
-    edge.word(REAL_PAGE_TABLE - 4, LAST_WORD - 0x17)
-        .word(LAST_WORD, bytes)
+// The swap table at this address, and the last word of storage.
+fn swap_table(edge: Edge, address: u32, last_word: u32) -> Edge {
+    edge.word(REAL_PAGE_TABLE - 4, address)
+        .word(LAST_WORD, last_word)
 }
 
 // The page in frame 003: its upper block is the last one.

@@ -1,4 +1,5 @@
 // INSERT STORAGE KEY.
+use crate::common_edges::{run_control_register_6, run_missing_fields};
 use crate::edge::{BC, EC, Edge};
 use crate::places::{LAST_WORD, MICRSEG, MICVPSW, REAL_PAGE_TABLE, REAL_SEGMENT_TABLE, SWAP_TABLE};
 use crate::run::Bench;
@@ -55,36 +56,6 @@ fn run_registers(bench: &mut Bench<'_, impl Print>) -> io::Result<()> {
     ])
 }
 
-// A field of the control program that is not in storage, or the page's key block: of ISK and of RRB.
-pub(crate) fn run_missing_fields(
-    bench: &mut Bench<'_, impl Print>,
-    instruction: &str,
-    edge: Edge,
-) -> io::Result<()> {
-    let edges = [
-        ("MICBLOK at 4000", edge.control_register_6(0x80004000)),
-        ("segment table at 4000", edge.word(MICRSEG, 0x00004000)),
-        (
-            "page table at 0, the swap table's address at FFFFFC",
-            edge.word(REAL_SEGMENT_TABLE + 4 * 2, 0xF0000000),
-        ),
-        (
-            "swap word at 3FFF",
-            edge.word(REAL_PAGE_TABLE - 4, 0x00003FE7),
-        ),
-        (
-            "page table at 4000",
-            edge.word(REAL_SEGMENT_TABLE + 4 * 2, 0xF0004000)
-                .word(LAST_WORD, SWAP_TABLE),
-        ),
-        ("page in frame 0FF", edge.page(0x0FF0)),
-    ];
-    for (case, edge) in edges {
-        bench.run(format_args!("{instruction:5} {case}"), edge)?;
-    }
-    Ok(())
-}
-
 // Past the end: MICVPSW, where MICBLOK is the last eight bytes, or the second byte of the virtual PSW.
 fn run_virtual_psw(bench: &mut Bench<'_, impl Print>) -> io::Result<()> {
     let no_micvpsw = Edge::isk(EC)
@@ -106,21 +77,12 @@ fn run_virtual_psw(bench: &mut Bench<'_, impl Print>) -> io::Result<()> {
 }
 
 fn run_tests(bench: &mut Bench<'_, impl Print>) -> io::Result<()> {
-    bench.run_each(&[
-        ("ISK   R2 bits 28-31 0001", Edge::isk(EC).r2(0x5A023001)),
-        (
-            "ISK   control register 6 bits 0-3 1010",
-            Edge::isk(EC).control_register_6(0xA0000400),
-        ),
-        (
-            "ISK   control register 6 bits 0-3 1001",
-            Edge::isk(EC).control_register_6(0x90000400),
-        ),
-        (
-            "ISK   MICRSEG bit 30 one",
-            Edge::isk(EC).word(MICRSEG, REAL_SEGMENT_TABLE + 2),
-        ),
-    ])
+    bench.run("ISK   R2 bits 28-31 0001", Edge::isk(EC).r2(0x5A023001))?;
+    run_control_register_6(bench, "ISK", Edge::isk(EC), &[0b1010, 0b1001])?;
+    bench.run(
+        "ISK   MICRSEG bit 30 one",
+        Edge::isk(EC).word(MICRSEG, REAL_SEGMENT_TABLE + 2),
+    )
 }
 
 // Address 123000: segment 12, or with 1M segments segment 1, page 23. `rseg` is MICRSEG.

@@ -78,7 +78,7 @@ const VIRTUAL_FORMATS: [VirtualFormat; 4] = [
     },
 ];
 
-// Five edges. `rseg` is MICRSEG, which chooses the real format.
+// Five edges; a call that sets condition code 1 finds 2. `rseg` is MICRSEG, which chooses the real format.
 fn run_format(
     bench: &mut Bench<'_, impl Print>,
     format: VirtualFormat,
@@ -98,7 +98,7 @@ fn run_format(
             "segment entry invalid",
             valid
                 .word(format.segment_entry, format.segment_invalid)
-                .condition_code_2(),
+                .condition_code(2),
         ),
         (
             "page entry invalid",

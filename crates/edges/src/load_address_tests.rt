@@ -1,4 +1,5 @@
 // LOAD REAL ADDRESS: the tests of virtual entries, the second halfword, recording. Set-ups as in `load_real_address`.
+use crate::common_edges::run_control_register_6;
 use crate::edge::Edge;
 use crate::load_address_walks::ecblok_at_end;
 use crate::places::{
@@ -13,6 +14,7 @@ pub(crate) fn run_load_address_tests(bench: &mut Bench<'_, impl Print>) -> io::R
     run_virtual_entries(bench)?;
     run_control_register_0(bench)?;
     run_second_halfword(bench)?;
+    run_control_register_6(bench, "LRA", Edge::lra(), &[0b1010, 0b1001, 0b1100])?;
     run_others(bench)
 }
 
@@ -27,7 +29,7 @@ fn run_virtual_entries(bench: &mut Bench<'_, impl Print>) -> io::Result<()> {
             "LRA   virtual segment entry invalid, bits 4-7 1000",
             Edge::lra()
                 .word(VIRTUAL_SEGMENT_ENTRY, 0x58056D09)
-                .condition_code_2(),
+                .condition_code(2),
         ),
         (
             "LRA   virtual segment entry bits 4-7 1000, page-table length 4",
@@ -112,21 +114,9 @@ fn run_second_halfword(bench: &mut Bench<'_, impl Print>) -> io::Result<()> {
     ])
 }
 
-// Control register 6, recording, and another first byte.
+// Recording, and another first byte.
 fn run_others(bench: &mut Bench<'_, impl Print>) -> io::Result<()> {
     bench.run_each(&[
-        (
-            "LRA   control register 6 bits 0-3 1010",
-            Edge::lra().control_register_6(0xA0000400),
-        ),
-        (
-            "LRA   control register 6 bits 0-3 1001",
-            Edge::lra().control_register_6(0x90000400),
-        ),
-        (
-            "LRA   control register 6 bits 0-3 1100",
-            Edge::lra().control_register_6(0xC0000400),
-        ),
         ("LRA   all keys F3", Edge::lra().all_keys(0xF3)),
         // Only the second halfword is fetched with the PSW key.
         (

@@ -62,7 +62,7 @@ fn run_virtual_tables_at_top(bench: &mut Bench<'_, impl Print>) -> io::Result<()
             "LRA   virtual segment table at FFFFC0, segment entry invalid",
             virtual_segments_at_top()
                 .word(0x2090, 0x50056D09)
-                .condition_code_2(),
+                .condition_code(2),
         ),
         (
             "LRA   virtual segment table at FFFFC0, length 02",

@@ -16,6 +16,7 @@ use crate::system_masks::run_system_masks;
 use crate::wrong_turns::run_wrong_turns;
 use std::io;
 
+mod common_edges;
 mod edge;
 mod end_of_storage;
 mod image;

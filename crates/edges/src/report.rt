@@ -15,12 +15,8 @@ impl fmt::Display for Outcome {
         match self.ending {
             Ending::Completed => write!(f, "completed"),
             Ending::Interruption(exception) => {
-                write!(
-                    f,
-                    "interruption {} ({})",
-                    exception.code(),
-                    Named(exception)
-                )
+                let code = exception.code();
+                write!(f, "interruption {code} ({})", Named(exception))
             }
             Ending::Expanded => write!(f, "handed to the expanded assist"),
             Ending::FieldMissing(number) => write!(f, "not in storage, {} {number}", self.field),

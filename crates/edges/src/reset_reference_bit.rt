@@ -1,6 +1,6 @@
 // RESET REFERENCE BIT.
+use crate::common_edges::{run_control_register_6, run_missing_fields};
 use crate::edge::Edge;
-use crate::insert_storage_key::run_missing_fields;
 use crate::places::{MICRSEG, REAL_SEGMENT_TABLE};
 use crate::run::Bench;
 use std::io;
@@ -10,10 +10,11 @@ pub(crate) fn run_reset_reference_bit(bench: &mut Bench<'_, impl Print>) -> io::
     run_other_codes(bench)?;
     run_missing_fields(bench, "RRB", usual())?;
     run_second_halfword(bench)?;
-    run_tests(bench)
+    run_control_register_6(bench, "RRB", usual(), &[0b1010, 0b1001, 0b1100])?;
+    run_others(bench)
 }
 
-// Each condition code, from the key and from the swap word: in the lower block and in the upper one.
+// Each condition code, by the key and by the swap word: of the lower block, then of the upper one.
 fn run_codes(bench: &mut Bench<'_, impl Print>) -> io::Result<()> {
     let lower = [
         (0xF9, 0x50C3F9FF),
@@ -109,21 +110,9 @@ fn run_second_halfword(bench: &mut Bench<'_, impl Print>) -> io::Result<()> {
     ])
 }
 
-// Control register 6, recording, DAT, and B2 with another second byte.
-fn run_tests(bench: &mut Bench<'_, impl Print>) -> io::Result<()> {
+// Recording, DAT, and B2 with another second byte.
+fn run_others(bench: &mut Bench<'_, impl Print>) -> io::Result<()> {
     bench.run_each(&[
-        (
-            "RRB   control register 6 bits 0-3 1010",
-            usual().control_register_6(0xA0000400),
-        ),
-        (
-            "RRB   control register 6 bits 0-3 1001",
-            usual().control_register_6(0x90000400),
-        ),
-        (
-            "RRB   control register 6 bits 0-3 1100",
-            usual().control_register_6(0xC0000400),
-        ),
         // The second halfword's fetch is recorded before the key is read.
         (
             "RRB   instruction in the page's own block",

@@ -11,8 +11,8 @@ const KEY_BLOCK: usize = 2048;
 
 pub(crate) const KEY_COUNT: usize = STORAGE_BYTES / KEY_BLOCK;
 
-// As arrays, whose lengths the type says: where a local array is lent as a slice, the check computes its length, for
-// which its stack is too small at millions of bytes.
+// Lent as arrays: where a local array becomes a slice, the check computes its length, for which its stack is too small
+// at millions of bytes.
 pub(crate) type Storage = [u8; STORAGE_BYTES];
 
 pub(crate) type Keys = [u8; KEY_COUNT];
@@ -34,24 +34,21 @@ impl<R: Print> Bench<'_, R> {
         Ok(())
     }
 
+    // In the first bytes of the storage and the first keys, as many as the edge has.
     pub(crate) fn run(&mut self, case: impl Display + Drop, edge: Edge) -> io::Result<()> {
         let rt = self.rt;
         print!(rt; "{case}")?;
         let storage = &mut *self.storage;
         let keys = &mut *self.keys;
-        run(rt, storage, keys, &edge)
+        let key_count = edge.size / KEY_BLOCK;
+        match (storage.get_mut(..edge.size), keys.get_mut(..key_count)) {
+            (Some(storage), Some(keys)) => run_in(rt, storage, keys, &edge),
+            _ => println!(rt; " | no room for its storage and keys"),
+        }
     }
 }
 
-// In the first bytes of the storage and the first keys that are lent, as many as the edge has.
-fn run(rt: &impl Print, storage: &mut [u8], keys: &mut [u8], edge: &Edge) -> io::Result<()> {
-    let key_count = edge.size / KEY_BLOCK;
-    match (storage.get_mut(..edge.size), keys.get_mut(..key_count)) {
-        (Some(storage), Some(keys)) => run_in(rt, storage, keys, edge),
-        _ => println!(rt; " | no room for its storage and keys"),
-    }
-}
-
+// The line has addresses in six digits, and the numbers of keys in one.
 fn run_in(rt: &impl Print, storage: &mut [u8], keys: &mut [u8], edge: &Edge) -> io::Result<()> {
     edge.fill(storage, keys);
     let Call {

@@ -62,7 +62,8 @@ impl Edge {
     // RRB of the same address, in frame 002; `key` is that of the address's block.
     pub(crate) fn rrb(key: u8, swap: u32) -> Edge {
         Edge::new(0xB213)
-            .condition_code_1()
+            .condition_code(1)
+            .program_mask_a()
             .operand(0x023000)
             .tables(0x0020)
             .swap(swap)
@@ -78,7 +79,8 @@ impl Edge {
     // Each table has entries for every format: another one is chosen by virtual control register 0, or by MICRSEG.
     pub(crate) fn lra() -> Edge {
         Edge::new(0xB130)
-            .condition_code_1()
+            .condition_code(1)
+            .program_mask_a()
             .register(2, 0x5A345E68)
             .register(3, 0xABCDEF3F)
             .word(MICRSEG, MICRSEG_4K)

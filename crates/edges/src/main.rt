@@ -9,19 +9,21 @@ use crate::load_real_address::run_load_real_address;
 use crate::low_addresses::run_low_addresses;
 use crate::recording::run_recording;
 use crate::reset_reference_bit::run_reset_reference_bit;
-use crate::run::{KEY_COUNT, Keys, STORAGE_BYTES, Storage};
+use crate::run::{Bench, KEY_COUNT, STORAGE_BYTES};
 use crate::set_storage_key::run_set_storage_key;
 use crate::store_control::run_store_control;
 use crate::system_masks::run_system_masks;
 use crate::wrong_turns::run_wrong_turns;
 use std::io;
 
+mod common_edges;
 mod edge;
 mod end_of_storage;
 mod image;
 mod insert_storage_key;
 mod load_address_formats;
 mod load_address_tests;
+mod load_address_walks;
 mod load_real_address;
 mod low_addresses;
 mod places;
@@ -34,24 +36,28 @@ mod set_storage_key;
 mod set_ups;
 mod store_control;
 mod system_masks;
-mod text;
 mod wrong_turns;
 
-fn run_all(rt: &impl Print, storage: &mut Storage, keys: &mut Keys) -> io::Result<()> {
-    run_store_control(rt, storage, keys)?;
-    run_system_masks(rt, storage, keys)?;
-    run_set_storage_key(rt, storage, keys)?;
-    run_insert_storage_key(rt, storage, keys)?;
-    run_reset_reference_bit(rt, storage, keys)?;
-    run_load_real_address(rt, storage, keys)?;
-    run_recording(rt, storage, keys)?;
-    run_low_addresses(rt, storage, keys)?;
-    run_end_of_storage(rt, storage, keys)?;
-    run_wrong_turns(rt, storage, keys)
+fn run_all(bench: &mut Bench<'_, impl Print>) -> io::Result<()> {
+    run_store_control(bench)?;
+    run_system_masks(bench)?;
+    run_set_storage_key(bench)?;
+    run_insert_storage_key(bench)?;
+    run_reset_reference_bit(bench)?;
+    run_load_real_address(bench)?;
+    run_recording(bench)?;
+    run_low_addresses(bench)?;
+    run_end_of_storage(bench)?;
+    run_wrong_turns(bench)
 }
 
 fn main(rt: HostRuntime) -> io::Result<()> {
-    let mut storage = [0u8; STORAGE_BYTES];
-    let mut keys = [0u8; KEY_COUNT];
-    run_all(&rt, &mut storage, &mut keys)
+    let mut storage = [0; STORAGE_BYTES];
+    let mut keys = [0; KEY_COUNT];
+    let mut bench = Bench {
+        rt: &rt,
+        storage: &mut storage,
+        keys: &mut keys,
+    };
+    run_all(&mut bench)
 }

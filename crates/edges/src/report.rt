@@ -1,171 +1,118 @@
 // What came of an edge, as the end of its line.
 use crate::edge::Edge;
-use crate::image::{Part, initial};
-use crate::text::{print, print_decimal, print_hex, print_line};
-use rules::{Answer, Ending, Guest};
-use std::io;
+use rules::{Answer, Call, Ending, Exception};
+use std::{fmt, io};
 
-const ADDRESS_DIGITS: usize = 6;
+// An ending in words. That a field is missing comes with its step, or for ISK, RRB and LRA with its place.
+#[derive(Clone, Copy)]
+struct Outcome {
+    ending: Ending,
+    field: &'static str,
+}
 
-const KEY_NUMBER_DIGITS: usize = 1;
-
-const BYTE_DIGITS: usize = 2;
-
-const REGISTER_DIGITS: usize = 8;
-
-const INTERRUPTION: u32 = 1;
-
-const FIELD_MISSING: u32 = 3;
-
-pub(crate) fn print_answer(rt: &impl Print, answer: Answer, first: u16) -> io::Result<()> {
-    let ending = answer.ending;
-    let guest = answer.guest;
-    print_ending(rt, ending, sets_register(first) | sets_code(first))?;
-    print(rt, b" | count ")?;
-    print_decimal(rt, answer.count)?;
-    print(rt, b" | next ")?;
-    print_hex(rt, guest.instruction_address() as u64, ADDRESS_DIGITS)?;
-    if sets_register(first) {
-        print_register(rt, guest, (first / 16 % 16) as u32)?;
+impl fmt::Display for Outcome {
+    fn fmt<W: fmt::Write>(&self, f: &mut fmt::Formatter<W>) -> fmt::Result {
+        match self.ending {
+            Ending::Completed => write!(f, "completed"),
+            Ending::Interruption(exception) => {
+                let code = exception.code();
+                write!(f, "interruption {code} ({})", Named(exception))
+            }
+            Ending::Expanded => write!(f, "handed to the expanded assist"),
+            Ending::FieldMissing(number) => write!(f, "not in storage, {} {number}", self.field),
+            Ending::WrongMode => write!(f, "PSW bit 12 or 15 zero"),
+            Ending::WrongStorageSize => write!(f, "storage size"),
+            Ending::WrongKeyCount => write!(f, "number of keys"),
+            Ending::OddInstructionAddress => write!(f, "odd instruction address"),
+            Ending::NotAssisted => write!(f, "operation code"),
+        }
     }
-    if sets_code(first) {
-        print_code(rt, guest)?;
+}
+
+// An exception by its name.
+#[derive(Clone, Copy)]
+struct Named(Exception);
+
+impl fmt::Display for Named {
+    fn fmt<W: fmt::Write>(&self, f: &mut fmt::Formatter<W>) -> fmt::Result {
+        match self.0 {
+            Exception::PrivilegedOperation => write!(f, "privileged operation"),
+            Exception::Protection => write!(f, "protection"),
+            Exception::Addressing => write!(f, "addressing"),
+            Exception::SegmentTranslation(address) => {
+                write!(f, "segment translation at {address:06X}")
+            }
+            Exception::PageTranslation(address) => write!(f, "page translation at {address:06X}"),
+            Exception::TranslationSpecification => write!(f, "translation specification"),
+        }
     }
-    Ok(())
 }
 
-// ISK and LRA set register R1, RRB and LRA the condition code. The ending 3 of these three carries a place.
-fn sets_register(first: u16) -> bool {
-    (first / 256 == 0x09) | (first / 256 == 0xB1)
-}
-
-fn sets_code(first: u16) -> bool {
-    (first == 0xB213) | (first / 256 == 0xB1)
-}
-
-// A general register as the record handed back has it.
-fn print_register(rt: &impl Print, guest: Guest, number: u32) -> io::Result<()> {
-    print(rt, b" | register ")?;
-    print_decimal(rt, number)?;
-    print(rt, b": ")?;
-    print_hex(rt, guest.register(number) as u64, REGISTER_DIGITS)
-}
-
-// The condition code, PSW bits 18-19, as the record handed back has it.
-fn print_code(rt: &impl Print, guest: Guest) -> io::Result<()> {
-    print(rt, b" | condition code ")?;
-    print_decimal(rt, (guest.psw / 0x100000000000 % 4) as u32)
-}
-
-fn print_ending(rt: &impl Print, ending: Ending, by_place: bool) -> io::Result<()> {
-    let number = ending.number();
-    let code = ending.code();
-    print(rt, b" | ending ")?;
-    print_decimal(rt, number)?;
-    print(rt, b" ")?;
-    // There are no endings 4 to 8.
-    print_line(
-        rt,
-        b"completed\n\
-          interruption \n\
-          handed to the expanded assist\n\
-          not in storage, \n\
-          \n\n\n\n\n\
-          PSW bit 12 or 15 zero\n\
-          storage size\n\
-          number of keys\n\
-          odd instruction address\n\
-          operation code\n",
-        number as usize,
-    )?;
-    if number == FIELD_MISSING {
-        print_line(rt, b"step \nplace \n", by_place as usize)?;
-    }
-    if code > 0 {
-        print_decimal(rt, code)?;
-    }
-    if number == INTERRUPTION {
-        print_exception(rt, code, ending.address())?;
-    }
-    Ok(())
-}
-
-// By its interruption code; 16 and 17 carry an address.
-fn print_exception(rt: &impl Print, code: u32, address: u32) -> io::Result<()> {
-    let line = match code {
-        2 => 0,
-        4 => 1,
-        5 => 2,
-        16 => 3,
-        17 => 4,
-        _ => 5,
+pub(crate) fn print_answer(rt: &impl Print, answer: Answer, edge: &Edge) -> io::Result<()> {
+    // with the record as it is handed back
+    let call = Call {
+        guest: answer.guest,
+        ..edge.call
     };
-    print(rt, b" (")?;
-    print_line(
-        rt,
-        b"privileged operation\n\
-          protection\n\
-          addressing\n\
-          segment translation at \n\
-          page translation at \n\
-          translation specification\n",
-        line,
-    )?;
-    if code == 16 || code == 17 {
-        print_hex(rt, address as u64, ADDRESS_DIGITS)?;
+    let register = register_set(call);
+    let code = code_set(call);
+    let is_set = register.is_some() || code.is_some();
+    let number = answer.ending.number();
+    let outcome = Outcome {
+        ending: answer.ending,
+        field: if is_set { "place" } else { "step" },
+    };
+    let count = answer.count;
+    let next = answer.guest.instruction_address();
+    print!(rt; " | ending {number} {outcome} | count {count} | next {next:06X}")?;
+    if let Some(number) = register {
+        let value = answer.guest.register(number);
+        print!(rt; " | register {number}: {value:08X}")?;
     }
-    print(rt, b")")
+    if let Some(code) = code {
+        print!(rt; " | condition code {code}")?;
+    }
+    Ok(())
 }
 
-// What the call changed, as a list.
-pub(crate) fn print_changes(
+// The number of register R1, where ISK or LRA sets it.
+fn register_set(call: Call) -> Option<u32> {
+    match call.operation() {
+        0x09 | 0xB1 => Some(call.r1()),
+        _ => None,
+    }
+}
+
+// The condition code, PSW bits 18-19, where RRB or LRA sets it.
+fn code_set(call: Call) -> Option<u64> {
+    match call.operation() {
+        0xB213 | 0xB1 => Some(call.guest.psw >> 44 & 3),
+        _ => None,
+    }
+}
+
+// What the call changed, as a list: places with `digits` digits, where `before` says what stood there.
+pub(crate) fn print_changes<F: Fn(u32) -> u8>(
     rt: &impl Print,
     lent: &[u8],
-    edge: Edge,
-    part: Part,
-) -> io::Result<()> {
-    print_title(rt, part)?;
-    let mut is_first = true;
-    for i in 0..lent.len() {
-        is_first = print_change(rt, edge, part, i, lent[i], is_first)?;
+    digits: usize,
+    before: F,
+) -> io::Result<()>
+    requires { F.IsAlwaysCallable before }
+{
+    let mut is_empty = true;
+    for (place, new) in (0u32..).zip(lent) {
+        let old = before(place);
+        if old != *new {
+            if !is_empty {
+                print!(rt; ", ")?;
+            }
+            print!(rt; "{place:0digits$X}: {old:02X} -> {new:02X}")?;
+            is_empty = false;
+        }
     }
-    if is_first {
-        print(rt, b"none")?;
+    if is_empty {
+        print!(rt; "none")?;
     }
     Ok(())
-}
-
-fn print_title(rt: &impl Print, part: Part) -> io::Result<()> {
-    match part {
-        Part::Storage => print(rt, b" | bytes: "),
-        Part::Keys => print(rt, b"; keys: "),
-    }
-}
-
-// One place, if it changed. The answer: would the next change be the first of its list?
-fn print_change(
-    rt: &impl Print,
-    edge: Edge,
-    part: Part,
-    i: usize,
-    new: u8,
-    is_first: bool,
-) -> io::Result<bool> {
-    let old = initial(edge, part, i);
-    if old == new {
-        return Ok(is_first);
-    }
-    if !is_first {
-        print(rt, b", ")?;
-    }
-    let digits = match part {
-        Part::Storage => ADDRESS_DIGITS,
-        Part::Keys => KEY_NUMBER_DIGITS,
-    };
-    print_hex(rt, i as u64, digits)?;
-    print(rt, b": ")?;
-    print_hex(rt, old as u64, BYTE_DIGITS)?;
-    print(rt, b" -> ")?;
-    print_hex(rt, new as u64, BYTE_DIGITS)?;
-    Ok(false)
 }

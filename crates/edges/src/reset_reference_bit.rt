@@ -1,83 +1,52 @@
 // RESET REFERENCE BIT.
+use crate::common_edges::{run_control_register_6, run_missing_fields};
 use crate::edge::Edge;
 use crate::places::{MICRSEG, REAL_SEGMENT_TABLE};
-use crate::run::{Group, Keys, Storage, run_each};
+use crate::run::Bench;
 use std::io;
 
-pub(crate) fn run_reset_reference_bit(
-    rt: &impl Print,
-    storage: &mut Storage,
-    keys: &mut Keys,
-) -> io::Result<()> {
-    run_codes(rt, storage, keys)?;
-    run_each(
-        rt,
-        storage,
-        keys,
-        Group::ResetBitFields,
-        6,
-        b"RRB   MICBLOK at 4000\n\
-          RRB   segment table at 4000\n\
-          RRB   page table at 0, the swap table's address at FFFFFC\n\
-          RRB   swap word at 3FFF\n\
-          RRB   page table at 4000\n\
-          RRB   page in frame 0FF\n",
-    )?;
-    run_tests(rt, storage, keys)
+pub(crate) fn run_reset_reference_bit(bench: &mut Bench<'_, impl Print>) -> io::Result<()> {
+    run_codes(bench)?;
+    run_other_codes(bench)?;
+    run_missing_fields(bench, "RRB", usual())?;
+    run_second_halfword(bench)?;
+    run_control_register_6(bench, "RRB", usual(), &[0b1010, 0b1001, 0b1100])?;
+    run_others(bench)
 }
 
-// Condition codes, keys and swap words.
-fn run_codes(rt: &impl Print, storage: &mut Storage, keys: &mut Keys) -> io::Result<()> {
-    run_each(
-        rt,
-        storage,
-        keys,
-        Group::ResetBit,
-        19,
-        b"RRB   key F9, swap word 50C3F9FF, bit 20 zero\n\
-          RRB   key FB, swap word 50C3F9FF, bit 20 zero\n\
-          RRB   key FD, swap word 50C3F9FF, bit 20 zero\n\
-          RRB   key FF, swap word 50C3F9FF, bit 20 zero\n\
-          RRB   key F9, swap word 50C3FBFF, bit 20 zero\n\
-          RRB   key F9, swap word 50C3FDFF, bit 20 zero\n\
-          RRB   key F9, swap word 50C3FFFF, bit 20 zero\n\
-          RRB   key FB, swap word 50C3FDFF, bit 20 zero\n\
-          RRB   key FD, swap word 50C3FBFF, bit 20 zero\n\
-          RRB   key F9, swap word 50C3FFF9, bit 20 one\n\
-          RRB   key FB, swap word 50C3FFF9, bit 20 one\n\
-          RRB   key FD, swap word 50C3FFF9, bit 20 one\n\
-          RRB   key FF, swap word 50C3FFF9, bit 20 one\n\
-          RRB   key F9, swap word 50C3FFFF, bit 20 one\n\
-          RRB   key F9, swap word 5FC3F9F9, bit 20 zero\n\
-          RRB   page invalid, swap word 50C3FFFF, bit 20 zero\n\
-          RRB   page invalid, swap word 50C3FFFF, bit 20 one\n\
-          RRB   page invalid, swap word 5FC3F9F9, bit 20 one\n\
-          RRB   operand 023FFF\n",
-    )
-}
-
-// The tests of steps 1 to 4, their order, recording, and B2 with another second byte.
-fn run_tests(rt: &impl Print, storage: &mut Storage, keys: &mut Keys) -> io::Result<()> {
-    run_each(
-        rt,
-        storage,
-        keys,
-        Group::ResetBitTests,
-        13,
-        b"RRB   second halfword not in storage\n\
-          RRB   second halfword fetch-protected\n\
-          RRB   second halfword's page invalid\n\
-          RRB   second halfword not in storage, MICRSEG bit 30 one\n\
-          RRB   second halfword not in storage, segment table at 4000\n\
-          RRB   control register 6 bits 0-3 1010\n\
-          RRB   control register 6 bits 0-3 1001\n\
-          RRB   control register 6 bits 0-3 1100\n\
-          RRB   instruction in the page's own block\n\
-          RRB   tables in the page's own block\n\
-          RRB   DAT on, instruction's page in frame 001\n\
-          other first halfword B212\n\
-          other first halfword B214\n",
-    )
+// Each condition code, by the key and by the swap word: of the lower block, then of the upper one.
+fn run_codes(bench: &mut Bench<'_, impl Print>) -> io::Result<()> {
+    let lower = [
+        (0xF9, 0x50C3F9FF),
+        (0xFB, 0x50C3F9FF),
+        (0xFD, 0x50C3F9FF),
+        (0xFF, 0x50C3F9FF),
+        (0xF9, 0x50C3FBFF),
+        (0xF9, 0x50C3FDFF),
+        (0xF9, 0x50C3FFFF),
+        (0xFB, 0x50C3FDFF),
+        (0xFD, 0x50C3FBFF),
+    ];
+    for (key, swap) in lower {
+        bench.run(
+            format_args!("RRB   key {key:02X}, swap word {swap:08X}, bit 20 zero"),
+            Edge::rrb(key, swap),
+        )?;
+    }
+    let upper = [
+        (0xF9, 0x50C3FFF9),
+        (0xFB, 0x50C3FFF9),
+        (0xFD, 0x50C3FFF9),
+        (0xFF, 0x50C3FFF9),
+        (0xF9, 0x50C3FFFF),
+    ];
+    for (key, swap) in upper {
+        bench.run(
+            format_args!("RRB   key {key:02X}, swap word {swap:08X}, bit 20 one"),
+            Edge::rrb_upper(key, swap),
+        )?;
+    }
+    Ok(())
 }
 
 // An invalid page, both keys FF.
@@ -85,49 +54,80 @@ fn invalid(edge: Edge) -> Edge {
     edge.page(0x0028).key(4, 0xFF).key(5, 0xFF)
 }
 
-pub(crate) fn edge(number: usize) -> Edge {
-    match number {
-        0 => Edge::rrb(0xF9, 0x50C3F9FF),
-        1 => Edge::rrb(0xFB, 0x50C3F9FF),
-        2 => Edge::rrb(0xFD, 0x50C3F9FF),
-        3 => Edge::rrb(0xFF, 0x50C3F9FF),
-        4 => Edge::rrb(0xF9, 0x50C3FBFF),
-        5 => Edge::rrb(0xF9, 0x50C3FDFF),
-        6 => Edge::rrb(0xF9, 0x50C3FFFF),
-        7 => Edge::rrb(0xFB, 0x50C3FDFF),
-        8 => Edge::rrb(0xFD, 0x50C3FBFF),
-        9 => Edge::rrb_upper(0xF9, 0x50C3FFF9),
-        10 => Edge::rrb_upper(0xFB, 0x50C3FFF9),
-        11 => Edge::rrb_upper(0xFD, 0x50C3FFF9),
-        12 => Edge::rrb_upper(0xFF, 0x50C3FFF9),
-        13 => Edge::rrb_upper(0xF9, 0x50C3FFFF),
-        14 => Edge::rrb(0xF9, 0x5FC3F9F9),
-        15 => invalid(Edge::rrb(0xFF, 0x50C3FFFF)),
-        16 => invalid(Edge::rrb_upper(0xFF, 0x50C3FFFF)),
-        17 => invalid(Edge::rrb_upper(0xFF, 0x5FC3F9F9)),
-        _ => Edge::rrb_upper(0xFB, 0x50C3FFFD).operand(0x023FFF),
-    }
+fn run_other_codes(bench: &mut Bench<'_, impl Print>) -> io::Result<()> {
+    bench.run_each(&[
+        (
+            "RRB   key F9, swap word 5FC3F9F9, bit 20 zero",
+            Edge::rrb(0xF9, 0x5FC3F9F9),
+        ),
+        (
+            "RRB   page invalid, swap word 50C3FFFF, bit 20 zero",
+            invalid(Edge::rrb(0xFF, 0x50C3FFFF)),
+        ),
+        (
+            "RRB   page invalid, swap word 50C3FFFF, bit 20 one",
+            invalid(Edge::rrb_upper(0xFF, 0x50C3FFFF)),
+        ),
+        (
+            "RRB   page invalid, swap word 5FC3F9F9, bit 20 one",
+            invalid(Edge::rrb_upper(0xFF, 0x5FC3F9F9)),
+        ),
+        (
+            "RRB   operand 023FFF",
+            Edge::rrb_upper(0xFB, 0x50C3FFFD).operand(0x023FFF),
+        ),
+    ])
 }
 
-pub(crate) fn test_edge(number: usize) -> Edge {
-    let usual = Edge::rrb(0xFB, 0x50C3FDFF);
-    match number {
-        0 => usual.instruction_at_top(),
-        1 => usual.psw_key_1().key(2, 0x28),
-        2 => usual.instruction_not_mapped(),
-        3 => usual
-            .instruction_at_top()
-            .word(MICRSEG, REAL_SEGMENT_TABLE + 2),
-        4 => usual.instruction_at_top().word(MICRSEG, 0x00004000),
-        5 => usual.control_register_6(0xA0000400),
-        6 => usual.control_register_6(0x90000400),
-        7 => usual.control_register_6(0xC0000400),
+fn usual() -> Edge {
+    Edge::rrb(0xFB, 0x50C3FDFF)
+}
+
+fn run_second_halfword(bench: &mut Bench<'_, impl Print>) -> io::Result<()> {
+    bench.run_each(&[
+        (
+            "RRB   second halfword not in storage",
+            usual().instruction_at_top(),
+        ),
+        (
+            "RRB   second halfword fetch-protected",
+            usual().psw_key_1().key(2, 0x28),
+        ),
+        (
+            "RRB   second halfword's page invalid",
+            usual().instruction_not_mapped(),
+        ),
+        (
+            "RRB   second halfword not in storage, MICRSEG bit 30 one",
+            usual()
+                .instruction_at_top()
+                .word(MICRSEG, REAL_SEGMENT_TABLE + 2),
+        ),
+        (
+            "RRB   second halfword not in storage, segment table at 4000",
+            usual().instruction_at_top().word(MICRSEG, 0x00004000),
+        ),
+    ])
+}
+
+// Recording, DAT, and B2 with another second byte.
+fn run_others(bench: &mut Bench<'_, impl Print>) -> io::Result<()> {
+    bench.run_each(&[
         // The second halfword's fetch is recorded before the key is read.
-        8 => Edge::rrb(0x00, 0x50C3F9FF).page(0x0010).key(2, 0xF9),
+        (
+            "RRB   instruction in the page's own block",
+            Edge::rrb(0x00, 0x50C3F9FF).page(0x0010).key(2, 0xF9),
+        ),
         // And the swap word's store after the key is set.
-        9 => Edge::rrb_upper(0x00, 0x50C3FFF9).page(0x0000).key(1, 0xF9),
-        10 => usual.dat(0x00000010, 0x00200000),
-        11 => usual.first(0xB212),
-        _ => usual.first(0xB214),
-    }
+        (
+            "RRB   tables in the page's own block",
+            Edge::rrb_upper(0x00, 0x50C3FFF9).page(0x0000).key(1, 0xF9),
+        ),
+        (
+            "RRB   DAT on, instruction's page in frame 001",
+            usual().dat(0x00000010, 0x00200000),
+        ),
+        ("other first halfword B212", usual().first(0xB212)),
+        ("other first halfword B214", usual().first(0xB214)),
+    ])
 }

@@ -11,27 +11,27 @@ use crate::registers::{MICRSEG_4K, PAGES_4K_SEGMENTS_64K};
 
 impl Edge {
     fn virtual_psw(self, mask: u8, mode: u8) -> Edge {
-        self.word(VIRTUAL_PSW, mask as u32 * 0x1000000 + mode as u32 * 0x10000)
+        self.word(VIRTUAL_PSW, u32::from_be_bytes([mask, mode, 0, 0]))
     }
 
     // `old` is byte 0 of the virtual PSW, `mode` its byte 1, `new` the operand.
     pub(crate) fn ssm(old: u8, mode: u8, new: u8) -> Edge {
         Edge::new(0x8000)
             .virtual_psw(old, mode)
-            .word(OPERAND, new as u32 * 0x1000000)
+            .word(OPERAND, u32::from_be_bytes([new, 0, 0, 0]))
     }
 
     pub(crate) fn stnsm(old: u8, mode: u8, immediate: u8) -> Edge {
-        Edge::new(0xAC00 + immediate as u16).virtual_psw(old, mode)
+        Edge::new(u16::from_be_bytes([0xAC, immediate])).virtual_psw(old, mode)
     }
 
     pub(crate) fn stosm(old: u8, mode: u8, immediate: u8) -> Edge {
-        Edge::new(0xAD00 + immediate as u16).virtual_psw(old, mode)
+        Edge::new(u16::from_be_bytes([0xAD, immediate])).virtual_psw(old, mode)
     }
 
     // R1 and R3 as they stand in the instruction, four bits each.
     pub(crate) fn stctl(registers: u8) -> Edge {
-        Edge::new(0xB600 + registers as u16).word(ECBLOK, virtual_register(0))
+        Edge::new(u16::from_be_bytes([0xB6, registers])).word(ECBLOK, virtual_register(0))
     }
 
     // The real tables of address 023000 (64K segments: segment 2, page 3), and the page's entry.
@@ -62,7 +62,8 @@ impl Edge {
     // RRB of the same address, in frame 002; `key` is that of the address's block.
     pub(crate) fn rrb(key: u8, swap: u32) -> Edge {
         Edge::new(0xB213)
-            .condition_code_1()
+            .condition_code(1)
+            .program_mask_a()
             .operand(0x023000)
             .tables(0x0020)
             .swap(swap)
@@ -78,7 +79,8 @@ impl Edge {
     // Each table has entries for every format: another one is chosen by virtual control register 0, or by MICRSEG.
     pub(crate) fn lra() -> Edge {
         Edge::new(0xB130)
-            .condition_code_1()
+            .condition_code(1)
+            .program_mask_a()
             .register(2, 0x5A345E68)
             .register(3, 0xABCDEF3F)
             .word(MICRSEG, MICRSEG_4K)

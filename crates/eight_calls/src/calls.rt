@@ -1,9 +1,11 @@
-// The eight calls, by their numbers from 1, and the number of the guest of each.
+// The eight calls, in order, each with the number of its guest.
 use rules::{Call, Guest};
 
-pub(crate) const FIRST_CALL: u32 = 1;
-
-pub(crate) const LAST_CALL: u32 = 8;
+#[derive(Clone, Copy)]
+pub(crate) struct GuestCall {
+    pub(crate) guest_number: u32,
+    pub(crate) call: Call,
+}
 
 // EC mode, problem state, DAT off; 4K pages, 64K segments; MICBLOK at 000400.
 fn usual_guest() -> Guest {
@@ -20,46 +22,47 @@ fn usual_guest() -> Guest {
     }
 }
 
-fn guest(number: u32) -> Guest {
+// Page 2 in place of page 3.
+fn guest_at_page_2() -> Guest {
     let mut guest = usual_guest();
-    match number {
-        // DAT on
-        3 => guest.psw = 0x040900CDAB001000,
-        // the expanded assist switched on, by bit 6
-        4 => guest.cr6 = 0x82000400,
-        // page 2 in place of page 3
-        5 => guest.general[4] = 0x5A022000,
-        // an odd instruction address
-        7 => guest.psw = 0x000900CDAB001001,
-        _ => {}
-    }
+    guest.general[4] = 0x5A022000;
     guest
 }
 
-fn first_halfword(number: u32) -> u16 {
-    match number {
-        1 => 0x8000,
-        2 => 0xB6E1,
-        3 => 0xB655,
-        4 => 0x8000,
-        5 => 0x0834,
-        6 => 0x0834,
-        7 => 0xAC07,
-        _ => 0x0700,
+fn made(guest_number: u32, guest: Guest, first: u16, installed: bool) -> GuestCall {
+    GuestCall {
+        guest_number,
+        call: Call {
+            guest,
+            first,
+            installed,
+        },
     }
 }
 
-pub(crate) fn call(number: u32) -> Call {
-    Call {
-        guest: guest(number),
-        first: first_halfword(number),
-        installed: number == 4,
-    }
-}
-
-pub(crate) fn guest_number(number: u32) -> u32 {
-    match number {
-        3 | 4 | 7 => 9,
-        _ => 7,
-    }
+pub(crate) fn calls() -> [GuestCall; 8] {
+    let usual = usual_guest();
+    let with_dat = Guest {
+        psw: 0x040900CDAB001000,
+        ..usual
+    };
+    // the expanded assist, by bit 6
+    let switched_on = Guest {
+        cr6: 0x82000400,
+        ..usual
+    };
+    let at_odd_address = Guest {
+        psw: 0x000900CDAB001001,
+        ..usual
+    };
+    [
+        made(7, usual, 0x8000, false),
+        made(7, usual, 0xB6E1, false),
+        made(9, with_dat, 0xB655, false),
+        made(9, switched_on, 0x8000, true),
+        made(7, guest_at_page_2(), 0x0834, false),
+        made(7, usual, 0x0834, false),
+        made(9, at_odd_address, 0xAC07, false),
+        made(7, usual, 0x0700, false),
+    ]
 }

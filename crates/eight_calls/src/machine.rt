@@ -1,16 +1,38 @@
 // Storage and keys. Before the first call storage is a function from an address to the word there, and keys are zero.
-use crate::words::byte_of;
+use rules::{Answer, Call};
 
-pub(crate) const STORAGE_BYTES: usize = 0x4000;
+const STORAGE_BYTES: usize = 0x4000;
 
 const KEY_BLOCK: usize = 2048;
 
-pub(crate) const KEY_COUNT: usize = STORAGE_BYTES / KEY_BLOCK;
+#[derive(Drop)]
+pub(crate) struct Machine {
+    storage: [u8; STORAGE_BYTES],
+    keys: [u8; STORAGE_BYTES / KEY_BLOCK],
+}
 
-// Arrays, since an array's length is known by its type after each call: of a slice it would have to be proved.
-pub(crate) type Storage = [u8; STORAGE_BYTES];
+impl Machine {
+    pub(crate) fn new() -> Machine {
+        let mut storage = [0; STORAGE_BYTES];
+        for (i, byte) in storage.iter_mut().enumerate() {
+            *byte = initial_word(i - i % 4).to_be_bytes()[i % 4];
+        }
+        Machine {
+            storage,
+            keys: [0; STORAGE_BYTES / KEY_BLOCK],
+        }
+    }
 
-pub(crate) type Keys = [u8; KEY_COUNT];
+    pub(crate) fn attempt(&mut self, call: Call) -> Answer {
+        assist::attempt(
+            &mut self.storage,
+            &mut self.keys,
+            call.guest,
+            call.first,
+            call.installed,
+        )
+    }
+}
 
 // Pages are 4K and segments 64K, in both kinds of tables.
 fn initial_word(address: usize) -> u32 {
@@ -36,11 +58,5 @@ fn initial_word(address: usize) -> u32 {
         0x3400 => 0x00000010,
         0x3404 => 0x00080000,
         _ => 0,
-    }
-}
-
-pub(crate) fn fill(storage: &mut Storage) {
-    for i in 0..STORAGE_BYTES {
-        storage[i] = byte_of(initial_word(i - i % 4), i % 4);
     }
 }

@@ -3,39 +3,28 @@
 // come.
 #![tactic(auto)]
 
-use crate::machine::{KEY_COUNT, Keys, STORAGE_BYTES, Storage};
+use crate::machine::Machine;
 use crate::own_buffers::try_own_buffers;
+use crate::recorder::Recorder;
 use crate::refusals::try_refusals;
-use crate::run::{BUFFER_BYTES, Buffer, UNUSED, run_calls, start};
+use crate::run::{run_calls, start};
 use crate::show::print_buffer;
 use std::io;
 
 mod calls;
 mod machine;
 mod own_buffers;
+mod recorder;
 mod refusals;
 mod run;
 mod show;
-mod text;
-mod words;
-
-fn run_all(
-    rt: &impl Print,
-    storage: &mut Storage,
-    keys: &mut Keys,
-    buffer: &mut Buffer,
-) -> io::Result<()> {
-    machine::fill(storage);
-    let held = start(rt, buffer)?;
-    let last = run_calls(rt, storage, keys, buffer, held)?;
-    try_refusals(rt, buffer, last)?;
-    try_own_buffers(rt, last)?;
-    print_buffer(rt, buffer)
-}
 
 fn main(rt: HostRuntime) -> io::Result<()> {
-    let mut storage = [0u8; STORAGE_BYTES];
-    let mut keys = [0u8; KEY_COUNT];
-    let mut buffer = [UNUSED; BUFFER_BYTES];
-    run_all(&rt, &mut storage, &mut keys, &mut buffer)
+    let mut machine = Machine::new();
+    let mut recorder = Recorder::new();
+    start(&rt, &mut recorder)?;
+    let last = run_calls(&rt, &mut machine, &mut recorder)?;
+    try_refusals(&rt, &mut recorder.buffer, last)?;
+    try_own_buffers(&rt, last)?;
+    print_buffer(&rt, &recorder.buffer)
 }

@@ -1,11 +1,9 @@
 // Writing calls in buffers of their own: about the lengths of a trailer and of one record, and at trailers that no
 // start made.
-use crate::run::UNUSED;
-use crate::show::{RECORD_BYTES, TRAILER_BYTES, print_outcome, print_trailer, print_written};
-use crate::text::{print, print_decimal};
-use crate::words::byte_of;
+use crate::recorder::UNUSED;
+use crate::show::{Outcome, RECORD_BYTES, TRAILER_BYTES, print_outcome, print_trailer};
 use std::io;
-use trail::{Entry, Written};
+use trail::{Entry, Refusal};
 
 const ONE_RECORD: usize = RECORD_BYTES + TRAILER_BYTES;
 
@@ -21,72 +19,61 @@ pub(crate) fn try_own_buffers(rt: &impl Print, last: Entry) -> io::Result<()> {
 }
 
 fn try_lengths(rt: &impl Print, last: Entry) -> io::Result<()> {
-    let mut no_record = [UNUSED; TRAILER_BYTES];
-    let mut one_byte_short = [UNUSED; ONE_RECORD - 1];
-    let mut one_record = [UNUSED; ONE_RECORD];
-    try_length(rt, &mut no_record, last)?;
-    try_length(rt, &mut one_byte_short, last)?;
-    try_length(rt, &mut one_record, last)
+    try_length(rt, &mut [UNUSED; TRAILER_BYTES], last)?;
+    try_length(rt, &mut [UNUSED; ONE_RECORD - 1], last)?;
+    try_length(rt, &mut [UNUSED; ONE_RECORD], last)
 }
 
 fn try_length(rt: &impl Print, buffer: &mut [u8], last: Entry) -> io::Result<()> {
-    print_decimal(rt, buffer.len() as u64)?;
-    print(rt, b" bytes: ")?;
-    print_outcome(rt, write_first(buffer, last), buffer)
+    let outcome = Outcome::of(write_first(buffer, last), 0);
+    print!(rt; "{} bytes: ", buffer.len())?;
+    print_outcome(rt, outcome, buffer)
 }
 
-fn write_first(buffer: &mut [u8], last: Entry) -> Written {
-    let started = trail::start(buffer);
-    trail::write(buffer, started.held, last)
+fn write_first(buffer: &mut [u8], last: Entry) -> Result<u32, Refusal> {
+    let held = trail::start(buffer)?;
+    trail::write(buffer, held, last)
 }
 
 // The turned-away number reaches its ceiling, and stays there.
 fn try_ceiling(rt: &impl Print, last: Entry) -> io::Result<()> {
     let mut buffer = trailer([0, 0, 0xFFFFFFFE, 1]);
-    try_given(rt, b"nearly: ", &mut buffer, last)?;
-    try_given(rt, b"ceiling: ", &mut buffer, last)
+    try_given(rt, "nearly", &mut buffer, last)?;
+    try_given(rt, "ceiling", &mut buffer, last)
 }
 
 fn try_other_trailers(rt: &impl Print, last: Entry) -> io::Result<()> {
-    let mut version = trailer([0, 0, 0, 2]);
-    let mut distance = trailer([0x80, 0, 0, 1]);
-    let mut number = trailer([0, 1, 0, 1]);
-    try_given(rt, b"other version: ", &mut version, last)?;
-    try_given(rt, b"other distance: ", &mut distance, last)?;
-    try_given(rt, b"other number: ", &mut number, last)
+    try_given(rt, "other version", &mut trailer([0, 0, 0, 2]), last)?;
+    try_given(rt, "other distance", &mut trailer([0x80, 0, 0, 1]), last)?;
+    try_given(rt, "other number", &mut trailer([0, 1, 0, 1]), last)
 }
 
 // In what a buffer holds, with no start.
-fn try_given(rt: &impl Print, name: &[u8], buffer: &mut [u8], last: Entry) -> io::Result<()> {
-    print(rt, name)?;
-    print_outcome(rt, trail::write(buffer, 0, last), buffer)
+fn try_given(rt: &impl Print, name: &str, buffer: &mut [u8], last: Entry) -> io::Result<()> {
+    let outcome = Outcome::of(trail::write(buffer, 0, last), 0);
+    print!(rt; "{name}: ")?;
+    print_outcome(rt, outcome, buffer)
 }
 
 // The trailer at the front has this record number, and would be found if 128 times the number were taken modulo 2^32.
 fn try_wrapped(rt: &impl Print, last: Entry) -> io::Result<()> {
     let mut buffer = trailer([0, WRAPPED, 0, 1]);
-    print(rt, b"wrapped: ")?;
-    print_written(rt, trail::write(&mut buffer, WRAPPED, last))?;
+    let outcome = Outcome::of(trail::write(&mut buffer, WRAPPED, last), WRAPPED);
+    print!(rt; "wrapped: {outcome}")?;
     print_trailer(rt, &buffer, 0)
 }
 
 // Turned away where a byte is wanting, then written with that byte.
 fn try_more_room(rt: &impl Print, last: Entry) -> io::Result<()> {
     let mut buffer = [UNUSED; ONE_RECORD];
-    write_first_one_byte_short(&mut buffer, last);
-    try_given(rt, b"more room: ", &mut buffer, last)
-}
-
-fn write_first_one_byte_short(buffer: &mut [u8], last: Entry) {
-    if buffer.len() >= ONE_RECORD - 1 {
-        write_first(&mut buffer[0..ONE_RECORD - 1], last);
-    }
+    _ = write_first(&mut buffer[..ONE_RECORD - 1], last);
+    try_given(rt, "more room", &mut buffer, last)
 }
 
 fn trailer(words: [u32; 4]) -> [u8; TRAILER_BYTES] {
-    let mut bytes = [0u8; TRAILER_BYTES];
-    for i in 0..TRAILER_BYTES {
-        bytes[i] = byte_of(words[i / 4], i % 4);
+    let mut bytes = [0; TRAILER_BYTES];
+    for (i, byte) in bytes.iter_mut().enumerate() {
+        *byte = words[i / 4].to_be_bytes()[i % 4];
     }
     bytes
 }

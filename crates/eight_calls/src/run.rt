@@ -1,66 +1,43 @@
 // The trail is started, and each call is made and written down; a line is printed for each.
-use crate::calls::{FIRST_CALL, LAST_CALL, call, guest_number};
-use crate::machine::{Keys, Storage};
+use crate::calls::{GuestCall, calls};
+use crate::machine::Machine;
+use crate::recorder::Recorder;
 use crate::show::{print_entry, print_outcome};
-use crate::text::{print, print_decimal};
 use std::io;
 use trail::Entry;
 
-// Room for five records, the trailer after them, and 24 bytes more.
-pub(crate) const BUFFER_BYTES: usize = 680;
-
-pub(crate) type Buffer = [u8; BUFFER_BYTES];
-
-// Each byte of a buffer before the start.
-pub(crate) const UNUSED: u8 = 0xEE;
-
-// What is written down of a call, and the number of records held after that.
-#[derive(Clone, Copy)]
-struct Made {
-    entry: Entry,
-    held: u32,
+pub(crate) fn start(rt: &impl Print, recorder: &mut Recorder) -> io::Result<()> {
+    let outcome = recorder.start();
+    print!(rt; "start: ")?;
+    print_outcome(rt, outcome, &recorder.buffer)
 }
 
-pub(crate) fn start(rt: &impl Print, buffer: &mut [u8]) -> io::Result<u32> {
-    let written = trail::start(buffer);
-    print(rt, b"start: ")?;
-    print_outcome(rt, written, buffer)?;
-    Ok(written.held)
-}
-
-// The calls in order; the answer is what is written down of the last one.
+// The answer is what is written down of the last call.
 pub(crate) fn run_calls(
     rt: &impl Print,
-    storage: &mut Storage,
-    keys: &mut Keys,
-    buffer: &mut Buffer,
-    held: u32,
+    machine: &mut Machine,
+    recorder: &mut Recorder,
 ) -> io::Result<Entry> {
-    let mut last = run(rt, storage, keys, buffer, held, FIRST_CALL)?;
-    for number in FIRST_CALL + 1..=LAST_CALL {
-        last = run(rt, storage, keys, buffer, last.held, number)?;
+    let calls = calls();
+    let mut last = run(rt, machine, recorder, 1, calls[0])?;
+    for (i, call) in calls.iter().enumerate().skip(1) {
+        last = run(rt, machine, recorder, i + 1, *call)?;
     }
-    Ok(last.entry)
+    Ok(last)
 }
 
 fn run(
     rt: &impl Print,
-    storage: &mut [u8],
-    keys: &mut [u8],
-    buffer: &mut [u8],
-    held: u32,
-    number: u32,
-) -> io::Result<Made> {
-    let call = call(number);
-    let answer = assist::attempt(storage, keys, call.guest, call.first, call.installed);
-    let entry = Entry::of(guest_number(number), call, answer);
-    let written = trail::write(buffer, held, entry);
-    print(rt, b"call ")?;
-    print_decimal(rt, number as u64)?;
+    machine: &mut Machine,
+    recorder: &mut Recorder,
+    number: usize,
+    made: GuestCall,
+) -> io::Result<Entry> {
+    let answer = machine.attempt(made.call);
+    let entry = Entry::of(made.guest_number, made.call, answer);
+    let outcome = recorder.write(entry);
+    print!(rt; "call {number}")?;
     print_entry(rt, entry)?;
-    print_outcome(rt, written, buffer)?;
-    Ok(Made {
-        entry,
-        held: written.held,
-    })
+    print_outcome(rt, outcome, &recorder.buffer)?;
+    Ok(entry)
 }

@@ -1,11 +1,6 @@
 // Parts of the lines.
-use crate::text::{print, print_decimal, print_hex, print_words};
-use std::io;
-use trail::{Entry, Written};
-
-const ADDRESS_DIGITS: usize = 6;
-
-const HALFWORD_DIGITS: usize = 4;
+use std::{fmt, io};
+use trail::{Entry, Refusal};
 
 pub(crate) const RECORD_BYTES: usize = 128;
 
@@ -13,64 +8,82 @@ pub(crate) const TRAILER_BYTES: usize = 16;
 
 const LINE_BYTES: usize = 32;
 
-pub(crate) fn print_entry(rt: &impl Print, entry: Entry) -> io::Result<()> {
-    let call = entry.call;
-    print(rt, b", guest ")?;
-    print_decimal(rt, entry.number as u64)?;
-    print(rt, b", ")?;
-    print_hex(rt, call.first as u64, HALFWORD_DIGITS)?;
-    print(rt, b": ending ")?;
-    print_decimal(rt, entry.ending as u64)?;
-    print(rt, b", code ")?;
-    print_decimal(rt, entry.code as u64)?;
-    print(rt, b", count ")?;
-    print_decimal(rt, entry.count as u64)?;
-    print(rt, b", next ")?;
-    print_hex(rt, entry.next as u64, ADDRESS_DIGITS)?;
-    print(rt, b", translation ")?;
-    print_hex(rt, entry.translation as u64, ADDRESS_DIGITS)?;
-    print(rt, b"; ")
+// What a call on a trail hands back, by its numbers: no refusal is zero, and a call that is refused hands back the
+// number of records held that it was given.
+#[derive(Clone, Copy)]
+pub(crate) struct Outcome {
+    refusal: u32,
+    pub(crate) held: u32,
 }
 
-pub(crate) fn print_written(rt: &impl Print, written: Written) -> io::Result<()> {
-    let refusal = written.refusal;
-    print(rt, b"refusal ")?;
-    print_decimal(rt, refusal.number() as u64)?;
-    print(rt, b", held ")?;
-    print_decimal(rt, written.held as u64)
+impl Outcome {
+    pub(crate) fn of(written: Result<u32, Refusal>, given: u32) -> Outcome {
+        match written {
+            Ok(held) => Outcome { refusal: 0, held },
+            Err(refusal) => Outcome {
+                refusal: refusal.number(),
+                held: given,
+            },
+        }
+    }
+}
+
+impl fmt::Display for Outcome {
+    fn fmt<W: fmt::Write>(&self, f: &mut fmt::Formatter<W>) -> fmt::Result {
+        write!(f, "refusal {}, held {}", self.refusal, self.held)
+    }
+}
+
+// Bytes as words of four, each after a space.
+#[derive(Clone, Copy)]
+struct Words<'a> {
+    bytes: &'a [u8],
+}
+
+impl fmt::Display for Words<'_> {
+    fn fmt<W: fmt::Write>(&self, f: &mut fmt::Formatter<W>) -> fmt::Result {
+        for word in self.bytes.chunks(4) {
+            f.write_str(" ")?;
+            for byte in word {
+                write!(f, "{byte:02X}")?;
+            }
+        }
+        Ok(())
+    }
+}
+
+pub(crate) fn print_entry(rt: &impl Print, entry: Entry) -> io::Result<()> {
+    print!(rt; ", guest {}, {:04X}: ", entry.number, entry.call.first)?;
+    print!(rt;
+        "ending {}, code {}, count {}, ",
+        entry.ending, entry.code, entry.count
+    )?;
+    print!(rt;
+        "next {:06X}, translation {:06X}; ",
+        entry.next, entry.translation
+    )
 }
 
 // The trailer after so many records, if the buffer is long enough to hold it there.
 pub(crate) fn print_trailer(rt: &impl Print, buffer: &[u8], held: u32) -> io::Result<()> {
     let from = RECORD_BYTES * held as usize;
-    let to = from + TRAILER_BYTES;
-    print(rt, b", trailer")?;
-    if to <= buffer.len() {
-        print_words(rt, &buffer[from..to])?;
+    print!(rt; ", trailer")?;
+    if let Some(bytes) = buffer.get(from..from + TRAILER_BYTES) {
+        print!(rt; "{}", Words { bytes })?;
     }
-    print(rt, b"\n")
+    println!(rt;)
 }
 
 // With the trailer that the number handed back points at.
-pub(crate) fn print_outcome(rt: &impl Print, written: Written, buffer: &[u8]) -> io::Result<()> {
-    print_written(rt, written)?;
-    print_trailer(rt, buffer, written.held)
+pub(crate) fn print_outcome(rt: &impl Print, outcome: Outcome, buffer: &[u8]) -> io::Result<()> {
+    print!(rt; "{outcome}")?;
+    print_trailer(rt, buffer, outcome.held)
 }
 
 // The last line has what is left.
 pub(crate) fn print_buffer(rt: &impl Print, buffer: &[u8]) -> io::Result<()> {
-    let mut from = 0;
-    while buffer.len() - from > LINE_BYTES {
-        let to = from + LINE_BYTES;
-        print_bytes(rt, from, &buffer[from..to])?;
-        from = to;
+    for (i, bytes) in buffer.chunks(LINE_BYTES).enumerate() {
+        println!(rt; "{:06X}:{}", LINE_BYTES * i, Words { bytes })?;
     }
-    print_bytes(rt, from, &buffer[from..])
-}
-
-fn print_bytes(rt: &impl Print, from: usize, bytes: &[u8]) -> io::Result<()> {
-    print_hex(rt, from as u64, ADDRESS_DIGITS)?;
-    print(rt, b":")?;
-    print_words(rt, bytes)?;
-    print(rt, b"\n")
+    Ok(())
 }

@@ -10,9 +10,9 @@ use lib.Dec.{ltb}
 use lib.Seq.{take-take, drop-drop, length-take-le, sets, sets-eq, length-sets}
 use Rattle.trail.specs.Words.{big_endian}
 use Rattle.trail.specs.Records.{Entry, record_bytes, trailer_bytes}
+use Rattle.std.specs.Prelude.{Option, None, Some}
 use Rattle.trail.specs.Trails.{
   Refusal,
-  None,
   NoTrailer,
   ShortBuffer,
   trail,
@@ -34,26 +34,26 @@ use Rattle.trail.proofs.Standing.{word_behind, word_back, record_length, added_l
 
 -- ---- which calls are refused
 
-start_refused : (b : List ℕ) → (start b).refusal ≡ cond (ltb (length b) trailer_size) ShortBuffer None
+start_refused : (b : List ℕ) → (start b).refusal ≡ cond (ltb (length b) trailer_size) (Some ShortBuffer) None
 unfolding start
 start_refused b = by (ltb (length b) trailer_size)
   where
     by : (x : Bool)
-        → (cond x (trail ShortBuffer 0 b) (trail None 0 (sets b 0 (trailer_bytes 0 0 0)))).refusal
-        ≡ cond x ShortBuffer None
+        → (cond x (trail (Some ShortBuffer) 0 b) (trail None 0 (sets b 0 (trailer_bytes 0 0 0)))).refusal
+        ≡ cond x (Some ShortBuffer) None
     by true = refl
     by false = refl
 
 write_refused : (b : List ℕ) (held : ℕ) (e : Entry)
     → (write b held e).refusal
-    ≡ cond (ltb (length b) trailer_size) ShortBuffer (cond (trailer_found b held) None NoTrailer)
+    ≡ cond (ltb (length b) trailer_size) (Some ShortBuffer) (cond (trailer_found b held) None (Some NoTrailer))
 unfolding write add turn_away
 write_refused b held e = by (ltb (length b) trailer_size) (trailer_found b held) (has_room (length b) held)
   where
     by : (x y z : Bool)
-        → (cond x (trail ShortBuffer held b)
-        (cond (not y) (trail NoTrailer held b) (cond z (add b held e) (turn_away b held)))).refusal
-        ≡ cond x ShortBuffer (cond y None NoTrailer)
+        → (cond x (trail (Some ShortBuffer) held b)
+        (cond (not y) (trail (Some NoTrailer) held b) (cond z (add b held e) (turn_away b held)))).refusal
+        ≡ cond x (Some ShortBuffer) (cond y None (Some NoTrailer))
     by true y z = refl
     by false true true = refl
     by false true false = refl
@@ -92,7 +92,7 @@ after_start b =
     (refl, refl)
     (λ l. (length-sets b 0 (trailer_bytes 0 0 0), sets_after b (trailer_bytes 0 0 0) 0 l))
 
-unchanged : (b : List ℕ) (held : ℕ) (refusal : Refusal) → OthersUnchanged b held (trail refusal held b)
+unchanged : (b : List ℕ) (held : ℕ) (refusal : Option Refusal) → OthersUnchanged b held (trail refusal held b)
 unchanged b held refusal = record {
   size = refl;
   before = refl;
@@ -158,8 +158,8 @@ after_turn_away b held found =
 after_write : (b : List ℕ) (held : ℕ) (e : Entry) → OthersUnchanged b held (write b held e)
 after_write b held e =
     write_cases b held e (OthersUnchanged b held)
-    (unchanged b held ShortBuffer)
-    (unchanged b held NoTrailer)
+    (unchanged b held (Some ShortBuffer))
+    (unchanged b held (Some NoTrailer))
     (λ f r. after_add b held e r)
     (λ f r. after_turn_away b held f)
 

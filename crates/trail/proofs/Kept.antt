@@ -10,7 +10,8 @@ use lib.Dec.{ltb, leb}
 use lib.Seq.{take-nil}
 use borrow.Author.Tests.{lt-ltb, le-ltb, leb-false}
 use Rattle.trail.specs.Records.{Entry, record_bytes}
-use Rattle.trail.specs.Trails.{Trail, None, trail, distance, largest, has_room, one_more}
+use Rattle.std.specs.Prelude.{None}
+use Rattle.trail.specs.Trails.{Trail, trail, distance, largest, has_room, one_more}
 use Rattle.trail.specs.Runs.{write_on, write_all, went_in, records_from}
 use Rattle.trail.specs.Theorems.{capacity}
 use Rattle.trail.proofs.Cases.{room}

@@ -1,10 +1,10 @@
 -- Parts of a buffer that are put anew; a turn of the loop that puts one word after the other.
-use Prim.Native.Nat.{ℕ, ◌+◌, ◌-◌, ◌*◌, ◌<◌, ◌≤◌}
+use Prim.Native.Nat.{ℕ, zero, suc, ◌+◌, ◌-◌, ◌*◌, ◌<◌, ◌≤◌}
 use native.Mathlib.Omega.{arith}
 use native.Mathlib.Numerals.{add-one}
 use mathlib.Core.Path.{◌≡◌, refl, sym, ap, ◌∙◌}
 use mathlib.Core.List.{List, [], ◌∷◌, ◌++◌, append_assoc}
-use lib.ListN.{length, get_or, take, drop, length-append}
+use lib.ListN.{length, get_or, take, drop, set, length-append, drop_of_length-le}
 use lib.Seq.{take_at, drop_at, drop-cons, length-take-le, sets, sets-eq}
 use borrow.Rule.Slice.PartMut.{put_mid, Post-is}
 use Rattle.trail.specs.Words.{big_endian, words_bytes}
@@ -65,3 +65,25 @@ module _ (b bytes : List ℕ) (at : ℕ) (fits : at + length bytes ≤ length b)
       ap (drop (at + length bytes)) (sets-eq bytes b at fits)
       ∙ drop_at (take at b ++ bytes) (drop (at + length bytes) b) (at + length bytes)
       (length-append (take at b) bytes ∙ ap (λ n. n + length bytes) (length-take-le at b short))
+
+-- bytes put right behind others are put with them
+pub sets_behind : (bytes more b : List ℕ) (at : ℕ)
+    → sets (sets b at bytes) (at + length bytes) more ≡ sets b at (bytes ++ more)
+sets_behind [] more b at = let none : at + 0 ≡ at = omega arith in ap (λ n. sets b n more) none
+sets_behind (v ∷ bytes) more b at =
+    let place : at + suc (length bytes) ≡ suc at + length bytes = omega arith in
+    ap (λ n. sets (sets (set b at v) (suc at) bytes) n more) place ∙ sets_behind bytes more (set b at v) (suc at)
+
+-- n elements of a list, from one on
+abbrev pub elements : (n from : ℕ) → List ℕ → List ℕ
+elements zero from l = []
+elements (suc n) from l = get_or l from 0 ∷ elements n (from + 1) l
+
+pub elements_all : (n from : ℕ) (l : List ℕ) → length l ≡ from + n → drop from l ≡ elements n from l
+elements_all zero from l h = let end : length l ≤ from = omega arith in drop_of_length-le l end
+elements_all (suc n) from l h =
+    let less : from < length l = omega arith in
+    let rest : length l ≡ from + 1 + n = omega arith in
+    drop-cons l from 0 less
+    ∙ ap (λ m. get_or l from 0 ∷ drop m l) (sym (add-one from))
+    ∙ ap (λ r. get_or l from 0 ∷ r) (elements_all n (from + 1) l rest)

@@ -10,8 +10,8 @@ use lib.Seq.{take_at, sets, sets-eq, take-append-add, drop-append-add, get_or-ap
 use borrow.Author.Tests.{le-leb, eq-eqb}
 use Rattle.trail.specs.Words.{big_endian, word_at}
 use Rattle.trail.specs.Records.{Entry, record_bytes, trailer_bytes}
+use Rattle.std.specs.Prelude.{None}
 use Rattle.trail.specs.Trails.{
-  None,
   trail,
   distance,
   largest,

@@ -9,7 +9,8 @@ use lib.Seq.{take_at, sets-eq}
 use borrow.Author.Tests.{le-ltb}
 use Rattle.trail.specs.Words.{word_at}
 use Rattle.trail.specs.Records.{Entry, record_bytes, trailer_bytes}
-use Rattle.trail.specs.Trails.{Trail, None, trail, start, distance, largest, trailer_size, turned_away}
+use Rattle.std.specs.Prelude.{None}
+use Rattle.trail.specs.Trails.{Trail, trail, start, distance, largest, trailer_size, turned_away}
 use Rattle.trail.specs.Runs.{write_on, write_all, run, went_in, records_from}
 use Rattle.trail.specs.Theorems.{recorded, capacity, RunKept, NoneWrittenOver, RecordLength, AttemptFits}
 use Rattle.rules.specs.Call.{operation}

@@ -1,10 +1,15 @@
 -- What the code's answer says of a trail, with the buffer that it leaves.
-use Rattle.std.specs.Prelude.{ℕ, List}
+use Rattle.std.specs.Prelude.{ℕ, List, Option, None, Some, Result, Ok, Err}
 use Rattle.trail.specs.Trails.{Refusal, Trail, trail}
-use Rattle.trail.specs.declared.Written.{Written}
 
-abbrev pub answered : Refusal → (held : ℕ) → Written
-answered refusal held = record { refusal = refusal; held = held }
+abbrev pub refusal_in : {A : Type 0} → Result A Refusal → Option Refusal
+refusal_in (Ok a) = None
+refusal_in (Err refusal) = Some refusal
 
-abbrev pub told : Written → (buffer : List ℕ) → Trail
-told w b = trail w.refusal w.held b
+-- a call that is refused hands back the number that it was given
+abbrev pub held_after : Result ℕ Refusal → (given : ℕ) → ℕ
+held_after (Ok held) given = held
+held_after (Err refusal) given = given
+
+abbrev pub told : Result ℕ Refusal → (given : ℕ) → (buffer : List ℕ) → Trail
+told answer given b = trail (refusal_in answer) (held_after answer given) b

@@ -1,6 +1,6 @@
 -- What is proved of trails. The proofs are in proofs/Theorems.antt, and for any buffer in proofs/AnyBuffer.antt.
 use Rattle.std.specs.Prelude.{ℕ, ◌+◌, ◌-◌, ◌/◌, ◌^◌, ◌<◌, ◌≤◌, min, ltb}
-use Rattle.std.specs.Prelude.{◌≡◌, cond, ◌⊎◌, List, ◌++◌, length, take, drop}
+use Rattle.std.specs.Prelude.{◌≡◌, cond, ◌⊎◌, None, Some, List, ◌++◌, length, take, drop}
 use Rattle.rules.specs.Machine.{Machine}
 use Rattle.rules.specs.declared.call.Call.{Call}
 use Rattle.rules.specs.Attempt.{attempt}
@@ -8,7 +8,6 @@ use Rattle.trail.specs.Words.{word_at}
 use Rattle.trail.specs.Records.{Entry, entry_of, record_bytes, trailer_bytes}
 use Rattle.trail.specs.Trails.{
   Trail,
-  None,
   NoTrailer,
   ShortBuffer,
   start,
@@ -65,10 +64,12 @@ NoneWrittenOver = (buffer : List ℕ) (entries later : List Entry) → trailer_s
 
 -- which calls are refused, and by which number
 pub record Refused : Type 0 where
-  pub on_start : (buffer : List ℕ) → (start buffer).refusal ≡ cond (ltb (length buffer) trailer_size) ShortBuffer None
+  pub on_start : (buffer : List ℕ)
+      → (start buffer).refusal ≡ cond (ltb (length buffer) trailer_size) (Some ShortBuffer) None
   pub on_write : (buffer : List ℕ) (held : ℕ) (e : Entry)
       → (write buffer held e).refusal
-      ≡ cond (ltb (length buffer) trailer_size) ShortBuffer (cond (trailer_found buffer held) None NoTrailer)
+      ≡ cond (ltb (length buffer) trailer_size) (Some ShortBuffer)
+      (cond (trailer_found buffer held) None (Some NoTrailer))
 
 -- a call that is refused changes nothing, and hands back the number given (starting hands back zero)
 pub record RefusalsChangeNothing : Type 0 where

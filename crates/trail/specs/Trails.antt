@@ -1,24 +1,26 @@
 -- Starting a trail, and writing a call down. Request R-1.
 use Rattle.std.specs.Prelude.{ℕ, ◌+◌, ◌*◌, min, Bool, cond, not, ◌&&◌, List, ◌++◌, length, eqb, ltb, leb}
+use Rattle.std.specs.Prelude.{Option, None, Some}
 use Rattle.std.proofs.lemmas.List.Edits.{sets}
 use Rattle.trail.specs.Words.{big_endian, word_at}
 use Rattle.trail.specs.Records.{Entry, record_bytes, trailer_bytes, version}
 pub use Rattle.trail.specs.declared.refusal.Refusal.{Refusal}
-pub use Rattle.trail.specs.declared.refusal.Refusal.TheVariants.{None, NoTrailer, ShortBuffer}
+pub use Rattle.trail.specs.declared.refusal.Refusal.TheVariants.{NoTrailer, ShortBuffer}
 
 -- the numbers of the refusals, which join document 01's table; zero where there is none
-abbrev pub refusal_number : Refusal → ℕ
+abbrev pub refusal_number : Option Refusal → ℕ
 refusal_number None = 0
-refusal_number NoTrailer = 20
-refusal_number ShortBuffer = 21
+refusal_number (Some NoTrailer) = 20
+refusal_number (Some ShortBuffer) = 21
 
--- what comes of a call on a trail: whether it is refused, the number of records held that is handed back, the buffer
+-- what comes of a call on a trail: why it is refused, if it is; the number of records held that is handed back; the
+-- buffer
 pub record Trail : Type 0 where
-  pub refusal : Refusal
+  pub refusal : Option Refusal
   pub held : ℕ
   pub buffer : List ℕ
 
-abbrev pub trail : Refusal → (held : ℕ) → (buffer : List ℕ) → Trail
+abbrev pub trail : Option Refusal → (held : ℕ) → (buffer : List ℕ) → Trail
 trail refusal held buffer = record { refusal = refusal; held = held; buffer = buffer }
 
 -- no number of the trailer is above this
@@ -34,7 +36,7 @@ trailer_size = 16
 
 unfoldable pub start : (buffer : List ℕ) → Trail
 start b =
-    cond (ltb (length b) trailer_size) (trail ShortBuffer 0 b)
+    cond (ltb (length b) trailer_size) (trail (Some ShortBuffer) 0 b)
     (trail None 0 (sets b 0 (trailer_bytes 0 0 0)))
 
 -- is the trailer that the number given points at whole in the buffer, with that distance and number, and version 1?
@@ -67,8 +69,17 @@ add b held e =
 unfoldable pub turn_away : (buffer : List ℕ) (held : ℕ) → Trail
 turn_away b held = trail None held (sets b (distance held + 8) (big_endian 4 (one_more (turned_away b held))))
 
+-- why a start is refused, if it is
+abbrev pub start_refusal : (buffer : List ℕ) → Option Refusal
+start_refusal b = cond (ltb (length b) trailer_size) (Some ShortBuffer) None
+
+-- why a writing call is refused, if it is
+abbrev pub write_refusal : (buffer : List ℕ) (held : ℕ) → Option Refusal
+write_refusal b held =
+    cond (ltb (length b) trailer_size) (Some ShortBuffer) (cond (trailer_found b held) None (Some NoTrailer))
+
 unfoldable pub write : (buffer : List ℕ) (held : ℕ) → Entry → Trail
 write b held e =
-    cond (ltb (length b) trailer_size) (trail ShortBuffer held b)
-    (cond (not (trailer_found b held)) (trail NoTrailer held b)
+    cond (ltb (length b) trailer_size) (trail (Some ShortBuffer) held b)
+    (cond (not (trailer_found b held)) (trail (Some NoTrailer) held b)
     (cond (has_room (length b) held) (add b held e) (turn_away b held)))

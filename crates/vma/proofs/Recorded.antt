@@ -11,7 +11,8 @@ use Rattle.rules.proofs.Theorems.Answers.{every_call_answered}
 use Rattle.rules.proofs.Theorems.Count.{count_bounded}
 use Rattle.assist.specs.Attempted.{attempted}
 use Rattle.trail.specs.declared.refusal.Refusal.{Refusal}
-use Rattle.trail.specs.declared.refusal.Refusal.TheVariants.{None, NoTrailer, ShortBuffer}
+use Rattle.trail.specs.declared.refusal.Refusal.TheVariants.{NoTrailer, ShortBuffer}
+use Rattle.std.specs.Prelude.{Option, None, Some}
 use Rattle.trail.specs.Trails.{Trail, refusal_number}
 use Rattle.vma.specs.Words.{guest_of}
 use Rattle.vma.specs.Called.{called}
@@ -19,12 +20,12 @@ use Rattle.vma.specs.Recorded.{packed_trail, refusal_in, held_in, CallRecorded}
 use Rattle.vma.proofs.Fields.{answer_fits}
 use Rattle.vma.proofs.Inverse.{packing_inverse}
 
-refusal_small : (r : Refusal) → refusal_number r < 256
+refusal_small : (r : Option Refusal) → refusal_number r < 256
 refusal_small None = omega arith
-refusal_small NoTrailer = omega arith
-refusal_small ShortBuffer = omega arith
+refusal_small (Some NoTrailer) = omega arith
+refusal_small (Some ShortBuffer) = omega arith
 
-pub refusal_whole : (r : Refusal) → refusal_number r % 256 ≡ refusal_number r
+pub refusal_whole : (r : Option Refusal) → refusal_number r % 256 ≡ refusal_number r
 refusal_whole r = let h = refusal_small r in omega arith
 
 -- the parts of the packed answer

@@ -1,28 +1,11 @@
--- The 21 words: a turn of the loop that copies the general registers; the words of a record that was made of them.
+-- The 21 words, of a record that was made of them.
 use Prim.Native.Nat.{ℕ, ◌+◌, ◌*◌, ◌/◌, ◌%◌, ◌^◌, ◌<◌, ◌≤◌}
 use native.Mathlib.Omega.{arith}
-use native.Mathlib.Numerals.{add-one}
 use mathlib.Core.Path.{◌≡◌, sym, ap, ◌∙◌}
 use mathlib.Core.List.{List, [], ◌∷◌, ◌++◌}
-use lib.ListN.{length, get_or, take, drop, set, take-append-drop, drop_of_length-le}
-use lib.Seq.{take-suc, take-suc-set, drop-cons}
-use Rattle.rules.specs.declared.guest.Guest.{Guest}
-use Rattle.rules.specs.Bits.{bits}
+use lib.ListN.{length, get_or, take, drop, take-append-drop, drop_of_length-le}
+use lib.Seq.{drop-cons}
 use Rattle.vma.specs.Words.{guest_of, words_of}
-
--- the words of a record up to its general registers, and the words after them
-abbrev pub left : Guest → List ℕ
-left g = bits 64 0 31 g.psw ∷ bits 64 32 63 g.psw ∷ g.general
-
-abbrev pub right : Guest → List ℕ
-right g = g.cr0 ∷ g.cr1 ∷ g.cr6 ∷ []
-
--- element i of a list is put where the other has its element i
-pub copy_turn : (l w : List ℕ) (i : ℕ) → i < length l → i < length w → take i l ≡ take i w
-    → take (i + 1) (set l i (get_or w i 0)) ≡ take (i + 1) w
-copy_turn l w i h k e =
-    rw add-one
-    (take-suc-set l i (get_or w i 0) h ∙ ap (λ (x : List ℕ). x ++ get_or w i 0 ∷ []) e ∙ sym (take-suc w i 0 k))
 
 -- sixteen of nineteen words, and the last three
 last_three : (l : List ℕ) → length l ≡ 19

@@ -4,22 +4,19 @@ ghost use Rattle.vma.specs.Words.{guest_of, words_of};
 
 use rules::Guest;
 
+// std has no method that joins the halves of a number, or takes it apart.
 fn joined(left: u32, right: u32) -> u64
     ensures { result ≡ left * 2 ^ 32 + right }
 {
-    (left as u64) * 4294967296 + (right as u64)
+    u64::from(left) * 4294967296 + u64::from(right)
 }
 
-// Words 2 to 17. A loop, which is compiled to one move of 64 bytes; sixteen reads are not.
+// Words 2 to 17. One move of 64 bytes, and not sixteen reads.
 fn general_registers(words: [u32; 21]) -> [u32; 16]
     ensures { result ≡ take 16 (drop 2 words) }
 {
-    let mut general = [0u32; 16];
-    let mut i: usize = 0;
-    while i < 16 {
-        general[i] = words[i + 2];
-        i += 1;
-    }
+    let mut general = [0; 16];
+    general.copy_from_slice(&words[2..18]);
     general
 }
 
@@ -37,20 +34,16 @@ pub(crate) fn guest_of(words: [u32; 21]) -> Guest
     }
 }
 
-// Words 2 to 17 come last: their loop, too, is compiled to one move.
+// Words 2 to 17 are one move here too.
 pub(crate) fn words_of(guest: Guest) -> [u32; 21]
     ensures { result ≡ words_of guest }
 {
-    let mut words = [0u32; 21];
+    let mut words = [0; 21];
     words[0] = (guest.psw / 4294967296 % 4294967296) as u32;
     words[1] = (guest.psw % 4294967296) as u32;
     words[18] = guest.cr0;
     words[19] = guest.cr1;
     words[20] = guest.cr6;
-    let mut i: usize = 0;
-    while i < 16 {
-        words[i + 2] = guest.general[i];
-        i += 1;
-    }
+    words[2..18].copy_from_slice(&guest.general);
     words
 }

@@ -1,21 +1,23 @@
-use Prim.Native.Nat.{◌+◌, ◌*◌}
-use native.Mathlib.Omega.{arith}
-use mathlib.Core.Path.{◌≡◌, ap, ◌∙◌}
-use mathlib.Core.List.{◌++◌}
-use lib.Seq.{sets}
+use Rattle.std.proofs.Common.{◌≡◌, ◌+◌, ◌*◌, ap, sym, ◌∙◌, arith, length}
+use Rattle.std.proofs.lemmas.List.Edits.{sets}
 use Rattle.trail.specs.Records.{record_bytes, trailer_bytes}
-use Rattle.trail.specs.Trails.{None, trail, turned_away, add}
+use Rattle.trail.specs.Trails.{turned_away, add}
+use Rattle.trail.proofs.Puts.{sets_behind}
+use Rattle.trail.proofs.Standing.{record_length}
 use Rattle.trail.proofs.add.Goals as goal
 
 pub returns : goal.returns
 unfolding add
 returns c =
     let a = c.args in
+    let b = a.buffer.now in
     let h = a.held in
+    let bytes = record_bytes h a.entry in
     let next : 128 * h + 128 ≡ 128 * (h + 1) = omega arith in
-    let words = c.record_and_trailer-words.ensures
-    ∙ ap (λ n. record_bytes h a.entry ++ trailer_bytes (128 * h + 128) (h + 1) n) c.word_at-turned_away.ensures
-    ∙ ap (λ d. record_bytes h a.entry ++ trailer_bytes d (h + 1) (turned_away a.buffer.now h)) next in
-    rw c.answered.ensures
-    (ap (λ b. trail None (h + 1) b)
-    (c.put_words.ensures ∙ ap (sets a.buffer.now (128 * h)) words))
+    let behind : 128 * h + 128 ≡ 128 * h + length bytes = ap (λ n. 128 * h + n) (sym (record_length h a.entry)) in
+    let put = c.put_words.ensures ∙ ap (sets b (128 * h)) c.record_words.ensures in
+    let trailer = ap (λ n. trailer_bytes (128 * h + 128) (h + 1) n) c.word_at-turned_away.ensures
+    ∙ ap (λ d. trailer_bytes d (h + 1) (turned_away b h)) next in
+    c.put_words-2.ensures
+    ∙ (λ i. sets (put i) (behind i) (trailer i))
+    ∙ sets_behind bytes (trailer_bytes (128 * (h + 1)) (h + 1) (turned_away b h)) b (128 * h)

@@ -1,20 +1,26 @@
-use mathlib.Core.Path.{ap}
-use borrow.Author.Tests.{lt-ltb, le-ltb}
-use Rattle.trail.specs.Trails.{None, trail, start}
-use Rattle.trail.proofs.Cases.{numbered}
+use Rattle.std.proofs.Common.{ap, le-ltb}
+use Rattle.std.specs.Prelude.{None}
+use Rattle.std.proofs.lemmas.Result.{err_from_is_err_and}
+use Rattle.trail.specs.Trails.{trail, refusal_number, start}
+use Rattle.trail.proofs.Cases.{start_refused, long_enough}
 use Rattle.trail.proofs.start.Goals as goal
 
-pub returns-then-buffer-lt-TRAILER_BYTES : goal.returns-then-buffer-lt-TRAILER_BYTES
-unfolding start
-returns-then-buffer-lt-TRAILER_BYTES c =
-    let both = numbered (simp (c.answered.ensures, lt-ltb _ _ c.if-buffer-lt-TRAILER_BYTES.true)) in
-    record { trail = both.0; number = both.1 }
+pub returns-in_err-check_length-clause-trail : goal.returns-in_err-check_length-clause-trail
+returns-in_err-check_length-clause-trail c =
+    let p = err_from_is_err_and c.from_residual.result c.from_residual.ensures.1 in
+    rw (p.1, p.2) (start_refused c.args.buffer.now _ c.in_err-check_length.ensures)
 
-pub returns : goal.returns
+pub returns-in_err-check_length-clause-number : goal.returns-in_err-check_length-clause-number
+returns-in_err-check_length-clause-number c =
+    let p = err_from_is_err_and c.from_residual.result c.from_residual.ensures.1 in
+    rw (p.1, p.2)
+    (ap (λ t. refusal_number t.refusal) (start_refused c.args.buffer.now _ c.in_err-check_length.ensures))
+
+pub returns-clause-trail : goal.returns-clause-trail
 unfolding start
-returns c =
-    let both =
-    numbered
-    (simp (c.answered-2.ensures, le-ltb _ _ c.if-buffer-lt-TRAILER_BYTES.false)
-    (ap (λ b. trail None 0 b) c.put_words.ensures)) in
-    record { trail = both.0; number = both.1 }
+returns-clause-trail c =
+    let long = long_enough c.args.buffer.now c.in_ok-check_length.ensures in
+    simp (le-ltb _ _ long) (ap (λ b. trail None 0 b) c.put_words.ensures)
+
+pub returns-clause-number : goal.returns-clause-number
+returns-clause-number c = ap (λ t. refusal_number t.refusal) (returns-clause-trail c)

@@ -1,12 +1,9 @@
-use mir.Syntax.{w32}
-use mir.Val.{Fits}
 use Rattle.vma.proofs.Recorded.{trail_packed}
-use borrow.Author.Rules.{rules}
 use Rattle.vma.proofs.vma_trail_start.Goals as goal
 
 pub returns : goal.returns
 returns c =
-    let told = c.start.ensures.trail in
-    let fits : Fits w32 c.start.result.held = search rules in
-    let p = trail_packed _ _ _ told c.pack_trail.ensures fits.fits in
+    let b = c.start.new.buffer in
+    let packed = c.pack_trail.ensures in
+    let p = trail_packed _ _ _ c.start.ensures.trail (packed.packed b) (packed.held b) in
     record { result = p.0; refusal = p.1.0; held = p.1.1.0; buffer = p.1.1.1 }

@@ -1,5 +1,0 @@
-use Rattle.trail.proofs.RecordBytes.{halfword_two_bytes}
-use Rattle.trail.proofs.records.halfword_and_bytes.Goals as goal
-
-pub returns : goal.returns
-returns c = let a = c.args in halfword_two_bytes a.first a.left a.right

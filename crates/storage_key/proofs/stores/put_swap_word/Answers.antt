@@ -1,38 +1,12 @@
-use Rattle.std.proofs.Common.{◌≡◌, length, sym, ap, ◌∙◌, arith}
+use Rattle.std.proofs.Common.{◌≡◌, sym, ap, ◌∙◌, arith}
 use Rattle.rules.specs.Machine.{addresses, stored}
-use Rattle.rules.proofs.Present.{each_there}
 use Rattle.storage.specs.declared.recording.Access.TheVariants.{Store}
 use Rattle.storage.proofs.Recorded.{one_block}
 use Rattle.storage.proofs.Words.{straight}
 use Rattle.storage_key.proofs.stores.put_swap_word.Goals as goal
 use Rattle.storage_key.proofs.stores.put_swap_word.Goals.{After-put_bytes-2}
 
--- ---- a word that goes round the top
-
-pub put_bytes-requires : goal.put_bytes-requires
-put_bytes-requires c =
-    let there = each_there (length c.args.storage.now) (addresses c.args.at 4) c.requires in
-    simp (c.sum-fourth.ensures, c.sum-third.ensures, c.sum-second.ensures)
-    (there.0, there.1.0, there.1.1.0, there.1.1.1.0)
-
-pub returns-then-at-gt16777212 : goal.returns-then-at-gt16777212
-returns-then-at-gt16777212 c =
-    simp (
-      c.put_bytes.ensures,
-      c.sum-fourth.ensures,
-      c.sum-third.ensures,
-      c.sum-second.ensures,
-      c.record_word.ensures,
-    )
-
--- ---- one that doesn't: its addresses follow each other
-
-pub put_bytes-requires-2 : goal.put_bytes-requires-2
-put_bytes-requires-2 c =
-    let below = c.if-at-gt16777212.false in
-    let last = (each_there (length c.args.storage.now) (addresses c.args.at 4) c.requires).1.1.1.0 in
-    (omega arith, omega arith, omega arith, omega arith)
-
+-- the addresses of a word that doesn't go round the top follow each other
 in_place : (c : After-put_bytes-2)
     → c.put_bytes-2.new.storage ≡ stored c.args.storage.now (addresses c.args.at 4) c.args.value
 in_place c =

@@ -43,8 +43,7 @@ pub(crate) fn find_page(
     let place = swap_word_at(storage, keys, numbers, format, entry, at).after(segment.count)?;
     // 8
     let number = numbers.swap;
-    let swap =
-        access::control_field::<u32>(storage, keys, number, place.value).after(place.count)?;
+    let swap = access::control_field::<u32>(storage, keys, number, place.value).after(place.count)?;
     // 9 and 10
     let page = page_of(storage, keys, numbers, format, entry, at).after(swap.count)?;
     Ok(Counted {

@@ -84,9 +84,7 @@ pub(crate) fn segment_of(
     let entries = Real {
         missing: Ending::FieldMissing(numbers.segment),
     };
-    access::faults_refused(access::segment_walk(
-        storage, keys, entries, format, rseg, at,
-    ))
+    access::faults_refused(access::segment_walk(storage, keys, entries, format, rseg, at))
 }
 
 // Step 7, the word at the page-table origin less 4; and step 8's address, of the swap word.

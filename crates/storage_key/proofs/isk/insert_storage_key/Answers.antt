@@ -1,6 +1,6 @@
-use Rattle.std.proofs.Common.{◌≡◌, ℕ, ap}
+use Rattle.std.proofs.Common.{ℕ}
 use Rattle.rules.specs.declared.tables.FoundPage.{FoundPage}
-use Rattle.rules.specs.InsertStorageKey.{insert_by, insert_storage_key}
+use Rattle.rules.specs.InsertStorageKey.{insert_storage_key}
 use Rattle.storage.specs.Answers.{machine}
 use Rattle.storage.proofs.Laws.{begin, fresh, finishes}
 use Rattle.storage.proofs.Stages.{Asked, asks, asks_after, given, ended_with}

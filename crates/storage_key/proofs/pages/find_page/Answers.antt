@@ -1,4 +1,3 @@
-use Rattle.rules.specs.declared.tables.FoundPage.{FoundPage}
 use Rattle.std.proofs.Common.{ℕ}
 use Rattle.rules.specs.SwapTables.{find_page}
 use Rattle.storage.specs.Answers.{machine}

@@ -68,8 +68,8 @@ pub returns-in-Some : goal.returns-in-Some
 unfolding reset_reference_bit rseg second found
 returns-in-Some c =
     let here = given (found (goal.at.returns-in-Some c).After-after-2) c.in_ok-found.was in
-    finishes c.reset_block_key.new.storage c.reset_block_key.new.keys (simp c.in-Some.is at here.runs) c.after-in-Some.ensures
-    c.reset_block_key.ensures
+    finishes c.reset_block_key.new.storage c.reset_block_key.new.keys (simp c.in-Some.is at here.runs)
+    c.after-in-Some.ensures c.reset_block_key.ensures
 
 -- it is invalid: step 13 alone
 pub put_swap_word-requires : goal.put_swap_word-requires

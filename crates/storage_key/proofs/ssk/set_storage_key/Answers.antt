@@ -49,8 +49,8 @@ pub returns-in-Some : goal.returns-in-Some
 unfolding set_storage_key rseg found
 returns-in-Some c =
     let here = given (found (goal.at.returns-in-Some c).After-after) c.in_ok-found.was in
-    finishes c.set_block_key.new.storage c.set_block_key.new.keys (simp c.in-Some.is at here.runs) c.after-in-Some.ensures
-    c.set_block_key.ensures
+    finishes c.set_block_key.new.storage c.set_block_key.new.keys (simp c.in-Some.is at here.runs)
+    c.after-in-Some.ensures c.set_block_key.ensures
 
 -- it is invalid: step 12 alone
 pub put_swap_word-requires : goal.put_swap_word-requires

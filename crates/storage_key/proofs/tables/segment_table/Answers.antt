@@ -1,4 +1,4 @@
-use Rattle.std.proofs.Common.{◌≡◌, ℕ, true, not, ap, eq-eqb, ne_eqb}
+use Rattle.std.proofs.Common.{ℕ, not, ap, eq-eqb, ne_eqb}
 use Rattle.rules.specs.SwapTables.{segment_table}
 use Rattle.storage.specs.Answers.{machine}
 use Rattle.storage.proofs.Laws.{begin, fresh, pass, stops, settles}

@@ -1,2 +1,0 @@
--- Laws of tests.
-pub mod Bools

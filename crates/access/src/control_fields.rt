@@ -10,6 +10,7 @@ use rules::{Ending, Guest, PageSize, SegmentSize};
 use storage::{Item, Step};
 
 // A word or a halfword; or ending 3 with this step, where a byte of it is not in storage.
+#[inline(always)]
 pub fn control_field<T: Item>(storage: &[u8], keys: &mut [u8], step: u32, at: u32) -> Step<u32>
     ensures { told result storage.now keys.new
         ≡ seen (fetch_bytes at T.bytes (FieldMissing step)) (machine storage.now keys.old) }
@@ -24,6 +25,7 @@ pub const MICCREG: u32 = 4;
 
 pub const MICVPSW: u32 = 8;
 
+#[inline(always)]
 pub fn micblok_word(
     storage: &[u8],
     keys: &mut [u8],

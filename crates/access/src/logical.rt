@@ -9,6 +9,7 @@ use rules::{Ending, Exception, Guest, KeyUse};
 use storage::{Access, After, Counted, Item, Step};
 
 // A store passes if the PSW key is zero or equals the access bits; a fetch passes also if the fetch bit is zero.
+#[inline(always)]
 fn passes(kind: Access, psw_key: u32, key: u32) -> bool
     ensures { result ≡ passes_for kind psw_key key }
 {
@@ -20,6 +21,7 @@ fn passes(kind: Access, psw_key: u32, key: u32) -> bool
 }
 
 // A real address: in storage, and its key lets the access pass.
+#[inline(always)]
 fn key_test(keys: &mut [u8], kind: Access, psw_key: u32, real: u32) -> Step<u32>
     ensures { (s : List ℕ) →
         told result s keys.new ≡ seen (key_test (passes_for kind) psw_key real) (machine s keys.old) }
@@ -36,6 +38,7 @@ fn key_test(keys: &mut [u8], kind: Access, psw_key: u32, real: u32) -> Step<u32>
 }
 
 // With DAT off a logical address is real.
+#[inline(always)]
 fn real_of(storage: &[u8], keys: &mut [u8], guest: Guest, at: u32) -> Step<u32>
     ensures { told result storage.now keys.new
         ≡ seen (real_of guest at) (machine storage.now keys.old) }
@@ -50,6 +53,7 @@ fn real_of(storage: &[u8], keys: &mut [u8], guest: Guest, at: u32) -> Step<u32>
 }
 
 // The access test, once for all instructions: the real address of a logical one, where its key lets the access pass.
+#[inline(always)]
 fn access_test(storage: &[u8], keys: &mut [u8], kind: Access, guest: Guest, at: u32) -> Step<u32>
     ensures { told result storage.now keys.new
         ≡ seen (access (passes_for kind) guest at) (machine storage.now keys.old) }
@@ -59,6 +63,7 @@ fn access_test(storage: &[u8], keys: &mut [u8], kind: Access, guest: Guest, at: 
 }
 
 // The store test of an operand: low-address protection comes before translation, and makes no entry.
+#[inline(always)]
 pub fn store_test(storage: &[u8], keys: &mut [u8], guest: Guest, at: u32) -> Step<u32>
     ensures { told result storage.now keys.new
         ≡ seen (store_test guest at) (machine storage.now keys.old) }
@@ -69,6 +74,7 @@ pub fn store_test(storage: &[u8], keys: &mut [u8], guest: Guest, at: u32) -> Ste
     access_test(storage, keys, Access::Store, guest, at)
 }
 
+#[inline(always)]
 pub fn logical_fetch<T: Item>(storage: &[u8], keys: &mut [u8], guest: Guest, at: u32) -> Step<u32>
     ensures { told result storage.now keys.new
         ≡ seen (logical_fetch guest at T.bytes) (machine storage.now keys.old) }
@@ -79,6 +85,7 @@ pub fn logical_fetch<T: Item>(storage: &[u8], keys: &mut [u8], guest: Guest, at:
 }
 
 // The second halfword of the instruction.
+#[inline(always)]
 pub fn second_halfword(storage: &[u8], keys: &mut [u8], guest: Guest) -> Step<u32>
     ensures { told result storage.now keys.new
         ≡ seen (second_halfword guest) (machine storage.now keys.old) }

@@ -11,18 +11,21 @@ use rules::{Ending, Format, TableFault};
 use storage::{Counted, Step};
 
 // The origin of the page table that a segment entry names.
+#[inline(always)]
 pub fn page_table(segment: u32) -> u32
     ensures { result ≡ page_table segment }
 {
     segment / 8 % 2097152 * 8
 }
 
+#[inline(always)]
 pub fn page_index(format: Format, at: u32) -> u32
     ensures { (result ≡ page_index format at) × (result ≤ 512) }
 {
     at % format.segment_bytes() / format.page_bytes()
 }
 
+#[inline(always)]
 pub(crate) fn page_entry_at(format: Format, segment: u32, at: u32) -> u32
     ensures { result ≡ page_entry_at format segment at }
 {
@@ -45,12 +48,14 @@ pub fn page_entry(
     storage::fetch::<u16>(storage, keys, place, missing)
 }
 
+#[inline(always)]
 pub fn is_invalid(format: Format, entry: u32) -> bool
     ensures { result ≡ invalid format entry }
 {
     entry / (format.page_bytes() / 512) % 2 == 1
 }
 
+#[inline(always)]
 pub fn is_malformed(format: Format, entry: u32) -> bool
     ensures { result ≡ malformed format entry }
 {
@@ -58,6 +63,7 @@ pub fn is_malformed(format: Format, entry: u32) -> bool
 }
 
 // The frame and the remaining address bits.
+#[inline(always)]
 pub fn real_address(format: Format, entry: u32, at: u32) -> u32
     ensures { result ≡ real_address format entry at }
 {
@@ -66,6 +72,7 @@ pub fn real_address(format: Format, entry: u32, at: u32) -> u32
 }
 
 // What is made of an entry, read at this place for an address: steps 5 and 6.
+#[inline(always)]
 fn page_verdict(entry: Counted<u32>, format: Format, place: u32, at: u32) -> Walked
     ensures { Follows entry result (page_verdict format place at) }
 {
@@ -83,6 +90,7 @@ fn page_verdict(entry: Counted<u32>, format: Format, place: u32, at: u32) -> Wal
 }
 
 // By entries that are read so.
+#[inline(always)]
 pub(crate) fn page_walk<E: Entries>(
     storage: &[u8],
     keys: &mut [u8],

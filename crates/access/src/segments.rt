@@ -12,12 +12,14 @@ use rules::{Format, TableFault};
 use storage::{After, Counted};
 
 // Step 2: for 64K segments the table's length must reach address bits 8-11.
+#[inline(always)]
 fn is_beyond_segments(format: Format, table: u32, at: u32) -> bool
     ensures { result ≡ beyond_segments format table at }
 {
     (format.segment_bytes() == 65536) & (table / 16777216 % 256 < at / 1048576 % 16)
 }
 
+#[inline(always)]
 fn segment_entry_at(format: Format, table: u32, at: u32) -> u32
     ensures { result ≡ segment_entry_at format table at }
 {
@@ -26,6 +28,7 @@ fn segment_entry_at(format: Format, table: u32, at: u32) -> u32
 }
 
 // Step 4: the four leftmost bits of the page index exceed the entry's length.
+#[inline(always)]
 fn is_beyond_pages(format: Format, entry: u32, at: u32) -> bool
     ensures { result ≡ beyond_pages format entry at }
 {
@@ -34,6 +37,7 @@ fn is_beyond_pages(format: Format, entry: u32, at: u32) -> bool
 }
 
 // What is made of an entry, read at this place for an address: steps 3 and 4.
+#[inline(always)]
 fn segment_verdict(entry: Counted<u32>, format: Format, place: u32, at: u32) -> Walked
     ensures { Follows entry result (segment_verdict format place at) }
 {
@@ -52,6 +56,7 @@ fn segment_verdict(entry: Counted<u32>, format: Format, place: u32, at: u32) -> 
 }
 
 // By entries that are read so.
+#[inline(always)]
 pub fn segment_walk<E: Entries>(
     storage: &[u8],
     keys: &mut [u8],
@@ -72,6 +77,7 @@ pub fn segment_walk<E: Entries>(
 }
 
 // Both halves, steps 2 to 6: segments by entries that are read one way, pages by entries that are read another.
+#[inline(always)]
 pub(crate) fn table_walk<S: Entries, P: Entries>(
     storage: &[u8],
     keys: &mut [u8],

@@ -19,6 +19,7 @@ fn format(page: PageSize, segment: SegmentSize) -> Option<Format>
 }
 
 // Step 1: control register 0 bits 8-12.
+#[inline(always)]
 pub fn format_of(cr0: u32) -> Option<Format>
     ensures { (unknown : Ending) (m : Machine) → formatted unknown result m ≡ seen (format_of unknown cr0) m }
 {
@@ -38,6 +39,7 @@ pub fn format_of(cr0: u32) -> Option<Format>
     None
 }
 
+#[inline(always)]
 fn exception(at: u32, fault: TableFault) -> Ending
     ensures { result ≡ exception at fault }
 {
@@ -50,6 +52,7 @@ fn exception(at: u32, fault: TableFault) -> Ending
 }
 
 // The walk's answer, its faults as endings.
+#[inline(always)]
 fn excepted(walked: Walked, at: u32) -> Step<u32>
     ensures { result ≡ ended_by (exception at) walked }
 {
@@ -62,6 +65,7 @@ fn excepted(walked: Walked, at: u32) -> Step<u32>
     })
 }
 
+#[inline(never)]
 pub(crate) fn translate(storage: &[u8], keys: &mut [u8], cr0: u32, cr1: u32, at: u32) -> Step<u32>
     ensures { told result storage.now keys.new
         ≡ seen (translate cr0 cr1 at) (machine storage.now keys.old) }

@@ -31,6 +31,7 @@ fn real_format(rseg: u32) -> Format
 
 impl Virtual {
     // The real address of a virtual one: steps 7 to 11, and 16 to 20.
+    #[inline(never)]
     fn real_by(self, storage: &[u8], keys: &mut [u8], at: u32) -> Step<u32>
         ensures { told result storage.now keys.new
             ≡ seen (real_by self.rseg self.segment self.page at) (machine storage.now keys.old) }

@@ -18,6 +18,7 @@ pub enum WalkEnd {
 pub type Walked = Result<Counted<u32>, Counted<WalkEnd>>;
 
 // A step's ending ends the walk.
+#[inline(always)]
 pub(crate) fn walked(step: Step<u32>) -> Walked
     ensures { result ≡ as_walk step }
 {
@@ -28,6 +29,7 @@ pub(crate) fn walked(step: Step<u32>) -> Walked
 }
 
 // The walk ends here, with what is wrong and where, after so many references.
+#[inline(always)]
 pub(crate) fn fault(kind: TableFault, entry: u32, count: u32) -> Walked
     ensures { result ≡ Err (counted (Fault kind entry) count) }
 {
@@ -38,6 +40,7 @@ pub(crate) fn fault(kind: TableFault, entry: u32, count: u32) -> Walked
 }
 
 // The walk's answer as a step's: all that is wrong with the tables gives document 01's "refuse".
+#[inline(always)]
 pub fn faults_refused(walked: Walked) -> Step<u32>
     ensures { result ≡ ended_by (λ fault. refuse) walked }
 {

@@ -8,6 +8,7 @@ use rules::Guest;
 use storage::{After, Counted, Step};
 
 // n virtual control registers from the first on, in the first n words; the register after 15 is register 0.
+#[inline(always)]
 pub(crate) fn virtual_registers(
     storage: &[u8],
     keys: &mut [u8],
@@ -33,6 +34,7 @@ pub(crate) fn virtual_registers(
 }
 
 // The real addresses of n operand words from an address on, each tested for a store.
+#[inline(always)]
 pub(crate) fn operand_words(
     storage: &[u8],
     keys: &mut [u8],

@@ -4,6 +4,7 @@ ghost use Rattle.rules.specs.Writes.{perform_all};
 ghost use Rattle.rules.specs.StoreControl.{word_stores};
 ghost use Rattle.storage.specs.Answers.{machine};
 
+#[inline(always)]
 pub(crate) fn store_words(storage: &mut [u8], keys: &mut [u8], reals: &[u32], values: &[u32])
     ensures { machine storage.new keys.new
         ≡ perform_all (machine storage.old keys.old) (word_stores reals.now values.now) }

@@ -17,6 +17,7 @@ pub trait Item {
 impl Item for u8 {
     ghost bytes = { 1 };
 
+    #[inline(always)]
     fn read(storage: &[u8], keys: &mut [u8], at: u32) -> Option<u32> {
         let value = byte_at(storage, at)?;
         record_byte(keys, Access::Fetch, at);
@@ -27,6 +28,7 @@ impl Item for u8 {
 impl Item for u16 {
     ghost bytes = { 2 };
 
+    #[inline(always)]
     fn read(storage: &[u8], keys: &mut [u8], at: u32) -> Option<u32> {
         let value = halfword_at(storage, at)?;
         record_halfword(keys, Access::Fetch, at);
@@ -37,6 +39,7 @@ impl Item for u16 {
 impl Item for u32 {
     ghost bytes = { 4 };
 
+    #[inline(always)]
     fn read(storage: &[u8], keys: &mut [u8], at: u32) -> Option<u32> {
         if is_across(at) {
             return word_across(storage, keys, at);
@@ -46,6 +49,7 @@ impl Item for u32 {
 }
 
 // A word in one block.
+#[inline(always)]
 fn word_within(storage: &[u8], keys: &mut [u8], at: u32) -> Option<u32>
     requires { across at ≡ false }
     ensures { Fetches result storage.now keys.old keys.new at 4 }
@@ -56,6 +60,7 @@ fn word_within(storage: &[u8], keys: &mut [u8], at: u32) -> Option<u32>
 }
 
 // A word wherever its bytes are.
+#[inline(never)]
 fn word_across(storage: &[u8], keys: &mut [u8], at: u32) -> Option<u32>
     ensures { Fetches result storage.now keys.old keys.new at 4 }
 {

@@ -3,12 +3,14 @@
 ghost use Rattle.std.specs.Prelude.{◌≡◌, ◌≤◌};
 ghost use Rattle.storage.specs.Items.{item_at};
 
+#[inline(always)]
 pub(crate) fn byte_at(storage: &[u8], at: u32) -> Option<u8>
     ensures { result ≡ item_at storage.now at 1 }
 {
     storage.get(at as usize).copied()
 }
 
+#[inline(always)]
 pub(crate) fn halfword_at(storage: &[u8], at: u32) -> Option<u16>
     ensures { result ≡ item_at storage.now at 2 }
 {
@@ -28,6 +30,7 @@ fn word_by_bytes(storage: &[u8], at: u32) -> Option<u32>
 
 // A word that does not go round the top of storage: it is there exactly if its last byte is
 // (specs/Theorems.antt, LastByteDecides).
+#[inline(always)]
 pub(crate) fn word_by_last_byte(storage: &[u8], at: u32) -> Option<u32>
     requires { at ≤ 16777212 }
     ensures { result ≡ item_at storage.now at 4 }

@@ -7,6 +7,7 @@ use crate::steps::{Counted, Step, stop};
 use rules::{Ending, KeyUse};
 
 // The key of a block, as it is seen for this use, or the ending if the block is not in storage.
+#[inline(always)]
 pub fn consult_key(keys: &mut [u8], for_use: KeyUse, block: u32, missing: Ending) -> Step<u32>
     ensures { (s : List ℕ) →
         told result s keys.new ≡ seen (consult_key for_use block missing) (machine s keys.old) }

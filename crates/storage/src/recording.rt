@@ -26,6 +26,7 @@ impl Access {
 }
 
 // The key of a byte's block.
+#[inline(always)]
 pub fn record_byte(keys: &mut [u8], access: Access, at: u32)
     ensures { keys.new
         ≡ slice_set keys.old (at / 2048) (marking access (slice_index keys.old (at / 2048))) }

@@ -23,6 +23,7 @@ pub trait After {
 
 // Whatever the error is: an ending, or what ends a walk through tables.
 impl<T, E> After for Result<Counted<T>, Counted<E>> {
+    #[inline(always)]
     fn after(self, n: u32) -> Result<Counted<T>, Counted<E>>
         ensures { result ≡ later n self }
     {
@@ -40,6 +41,7 @@ impl<T, E> After for Result<Counted<T>, Counted<E>> {
 }
 
 // This ending, after so many references.
+#[inline(always)]
 pub fn stop<T>(ending: Ending, count: u32) -> Step<T>
     ensures { result ≡ Err (counted ending count) }
 {
@@ -50,6 +52,7 @@ pub fn stop<T>(ending: Ending, count: u32) -> Step<T>
 }
 
 // Document 01's "refuse".
+#[inline(always)]
 pub fn refuse<T>(count: u32) -> Step<T>
     ensures { result ≡ Err (counted refuse count) }
 {
@@ -57,6 +60,7 @@ pub fn refuse<T>(count: u32) -> Step<T>
 }
 
 // An answer with every ending turned into it.
+#[inline(always)]
 pub fn refused<T>(step: Step<T>) -> Step<T>
     ensures { result ≡ refused step }
 {
@@ -64,6 +68,7 @@ pub fn refused<T>(step: Step<T>) -> Step<T>
 }
 
 // An item of storage, or this ending if a byte of it is not there.
+#[inline(always)]
 pub fn fetch<T: Item>(storage: &[u8], keys: &mut [u8], at: u32, missing: Ending) -> Step<u32>
     ensures { told result storage.now keys.new
         ≡ seen (fetch_bytes at T.bytes missing) (machine storage.now keys.old) }

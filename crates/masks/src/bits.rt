@@ -1,6 +1,7 @@
 // The first halfword of the virtual PSW, and which bits of its byte 0, the system mask, change.
-ghost use Rattle.std.specs.Prelude.{◌≡◌, not, ◌&&◌, ◌%◌, ◌<◌, length, set};
+ghost use Rattle.std.specs.Prelude.{◌≡◌, ◌&&◌, ◌%◌, ◌<◌, length, set};
 ghost use Rattle.rules.specs.Writes.{perform, store};
+ghost use Rattle.rules.specs.Bits.{bit};
 ghost use Rattle.rules.specs.Masks.{mask_in, extended_in, at_any, all_bits, rises};
 ghost use Rattle.storage.specs.Answers.{machine};
 
@@ -19,25 +20,28 @@ pub(crate) fn is_extended(first: u32) -> bool
     first / 8 % 2 == 1
 }
 
-// A bit goes from zero to one.
-pub(crate) fn goes_up(old: bool, new: bool) -> bool
-    ensures { result ≡ (not old && new) }
+// Is this bit of a mask one? Bit 0 is leftmost.
+#[tactic(auto, using(crate::proofs::Shifts::bit_shifted))]
+pub(crate) fn bit(mask: u32, place: u32) -> bool
+    requires { place < 8 }
+    ensures { result ≡ bit 8 place mask }
 {
-    !old & new
+    (mask >> (7 - place)) % 2 == 1
+}
+
+// A bit goes from zero to one.
+pub(crate) fn rises(old: u32, new: u32, place: u32) -> bool
+    requires { place < 8 }
+    ensures { result ≡ rises old new place }
+{
+    !bit(old, place) & bit(new, place)
 }
 
 // Any bit of a mask goes from zero to one.
 fn any_rises(old: u32, new: u32) -> bool
     ensures { result ≡ at_any all_bits (rises old new) }
 {
-    goes_up(old / 128 % 2 == 1, new / 128 % 2 == 1)
-        | (goes_up(old / 64 % 2 == 1, new / 64 % 2 == 1)
-            | (goes_up(old / 32 % 2 == 1, new / 32 % 2 == 1)
-                | (goes_up(old / 16 % 2 == 1, new / 16 % 2 == 1)
-                    | (goes_up(old / 8 % 2 == 1, new / 8 % 2 == 1)
-                        | (goes_up(old / 4 % 2 == 1, new / 4 % 2 == 1)
-                            | (goes_up(old / 2 % 2 == 1, new / 2 % 2 == 1)
-                                | goes_up(old % 2 == 1, new % 2 == 1)))))))
+    (0..8).any(|place| rises(old, new, place))
 }
 
 // The same while a virtual interruption is pending; seldom is one.

@@ -1,10 +1,11 @@
 // SET SYSTEM MASK (80), S format: the operand byte becomes byte 0 of the virtual PSW.
-ghost use Rattle.std.specs.Prelude.{◌≡◌, not, ◌&&◌, ◌||◌};
+ghost use Rattle.std.specs.Prelude.{◌≡◌, ◌<◌};
+ghost use Rattle.rules.specs.Masks.{changes};
 ghost use Rattle.rules.specs.SetSystemMask.{mask_operand, mask_needs_expanded, mask_target, set_system_mask};
 ghost use Rattle.storage.specs.Answers.{machine, told, seen, finished, finish};
 
-use crate::bits::{any_rises_pending, goes_up, is_extended, mask_in, put_mask};
-use rules::{Call, Ending, Exception, Guest, RecordChange};
+use crate::bits::{any_rises_pending, bit, is_extended, mask_in, put_mask, rises};
+use rules::{Call, Guest, RecordChange};
 use storage::{After, Counted, Step};
 
 // Steps 1 to 6: the operand byte.
@@ -34,22 +35,20 @@ fn mask_operand(storage: &[u8], keys: &mut [u8], guest: Guest) -> Step<u32>
 }
 
 // A bit changes.
-fn changes(old: bool, new: bool) -> bool
-    ensures { result ≡ ((not old && new) || (not new && old)) }
+fn changes(old: u32, new: u32, place: u32) -> bool
+    requires { place < 8 }
+    ensures { result ≡ changes old new place }
 {
-    goes_up(old, new) | goes_up(new, old)
+    rises(old, new, place) | rises(new, old, place)
 }
 
 // Step 9 in the EC mode. (In the BC mode it is `any_rises_pending`.)
 fn mask_needs_expanded(pending: bool, old: u32, new: u32) -> bool
     ensures { result ≡ mask_needs_expanded pending old new }
 {
-    changes(old / 64 % 2 == 1, new / 64 % 2 == 1)
-        | changes(old / 4 % 2 == 1, new / 4 % 2 == 1)
-        | ((new / 128 % 2 == 1)
-            | ((new / 32 % 2 == 1) | ((new / 16 % 2 == 1) | (new / 8 % 2 == 1))))
-        | (pending
-            & (goes_up(old / 2 % 2 == 1, new / 2 % 2 == 1) | goes_up(old % 2 == 1, new % 2 == 1)))
+    let changed = changes(old, new, 1) | changes(old, new, 5);
+    let set = bit(new, 0) | (bit(new, 2) | (bit(new, 3) | bit(new, 4)));
+    changed | set | (pending & (rises(old, new, 6) | rises(old, new, 7)))
 }
 
 // Steps 7 to 9: the address of the virtual PSW, where the new mask may be put.

@@ -4,7 +4,7 @@ ghost use Rattle.std.specs.Prelude.{◌≡◌};
 ghost use Rattle.rules.specs.StoreThenMask.{new_mask, needs_expanded, byte_operand, store_then};
 ghost use Rattle.storage.specs.Answers.{machine, told, seen, finished, finish};
 
-use crate::bits::{any_rises_pending, goes_up, is_extended, mask_in, put_mask};
+use crate::bits::{any_rises_pending, is_extended, mask_in, put_mask, rises};
 use rules::{Call, Guest, MaskChange, RecordChange};
 use storage::{After, Counted, Step};
 
@@ -23,18 +23,9 @@ fn needs_expanded(change: MaskChange, ec: bool, pending: bool, old: u32, new: u3
     ensures { result ≡ needs_expanded change ec pending old new }
 {
     match change {
-        MaskChange::And => {
-            ec & (goes_up(new / 64 % 2 == 1, old / 64 % 2 == 1)
-                | goes_up(new / 4 % 2 == 1, old / 4 % 2 == 1))
-        }
+        MaskChange::And => ec & (rises(new, old, 1) | rises(new, old, 5)),
         MaskChange::Or => {
-            (ec & (goes_up(old / 128 % 2 == 1, new / 128 % 2 == 1)
-                | (goes_up(old / 64 % 2 == 1, new / 64 % 2 == 1)
-                    | (goes_up(old / 32 % 2 == 1, new / 32 % 2 == 1)
-                        | (goes_up(old / 16 % 2 == 1, new / 16 % 2 == 1)
-                            | (goes_up(old / 8 % 2 == 1, new / 8 % 2 == 1)
-                                | goes_up(old / 4 % 2 == 1, new / 4 % 2 == 1)))))))
-                | any_rises_pending(pending, old, new)
+            (ec & (0..6).any(|place| rises(old, new, place))) | any_rises_pending(pending, old, new)
         }
     }
 }

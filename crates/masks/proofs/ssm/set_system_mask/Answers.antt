@@ -1,5 +1,4 @@
 use Rattle.std.proofs.Common.{ℕ, length}
-use Rattle.rules.specs.Call.{Completion}
 use Rattle.rules.specs.SetSystemMask.{set_system_mask}
 use Rattle.rules.proofs.Present.Masks.{mask_target-gives}
 use Rattle.storage.specs.Answers.{machine}

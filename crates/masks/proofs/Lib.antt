@@ -1,0 +1,2 @@
+-- Bits of a mask, by shifts.
+pub mod Shifts

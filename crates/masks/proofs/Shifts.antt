@@ -1,0 +1,15 @@
+-- A bit of a mask, by a shift.
+use Rattle.std.proofs.Common.{◌≡◌, ℕ, zero, suc, ◌+◌, ◌-◌, ◌/◌, ◌%◌, ◌^◌, nat_eq, refl, ap, ◌∙◌, arith}
+use Rattle.rules.specs.Bits.{without, bit}
+
+shifted : (n x : ℕ) → x / 2 ^ n ≡ without n x
+shifted zero x = omega arith
+shifted (suc n) x = refl
+
+pub bit_shifted : (place x : ℕ) → nat_eq (x / 2 ^ (7 - place) % 2) 1 ≡ bit 8 place x
+bit_shifted place x =
+    let n = 8 - (place + 1) in
+    let left : 7 - place ≡ n = omega arith in
+    let one : 1 ≡ place + 1 - place = omega arith in
+    ap (λ y. nat_eq y 1)
+    (ap (λ m. x / 2 ^ m % 2) left ∙ ap (λ y. y % 2) (shifted n x) ∙ ap (λ k. without n x % 2 ^ k) one)

@@ -18,7 +18,7 @@ pub fn control_field<T: Item>(storage: &[u8], keys: &mut [u8], step: u32, at: u3
     storage::fetch::<T>(storage, keys, at, Ending::FieldMissing(step))
 }
 
-// The offsets of the words of MICBLOK.
+// The offsets of the words of MICBLOK. They are added to an address, so they stay numbers.
 pub const MICRSEG: u32 = 0;
 
 pub const MICCREG: u32 = 4;

@@ -29,7 +29,8 @@ fn mask_change(operation: u32) -> Option<MaskChange>
     None
 }
 
-// The instruction, by its operation code. Each is called at one place, so that the compiler puts it there.
+// The instruction, by its operation code, which stays a number: the manual names instructions by it, and so do the
+// table and the definitions. Each is called at one place, so that the compiler puts it there.
 fn instruction(storage: &mut [u8], keys: &mut [u8], call: Call) -> Step<RecordChange>
     ensures { finished result storage.new keys.new
         ≡ finish (seen (instruction call) (machine storage.old keys.old)) }

@@ -66,8 +66,8 @@ pub struct FieldNumbers {
     pub block: u32,
 }
 
-// A page that was found: its swap word and where that stands; the block of the address, and none on an invalid page; and
-// whether the address is in the upper block of its page.
+// A page that was found: its swap word and where that stands; the block of the address, and none on an invalid page;
+// and whether the address is in the upper block of its page.
 #[derive(Clone, Copy)]
 pub struct FoundPage {
     pub place: u32,

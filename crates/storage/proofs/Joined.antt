@@ -35,7 +35,8 @@ use Rattle.storage.specs.Items.{item_at}
 -- a byte, as it is found at a place of a slice
 pub byte_found : (s : List ℕ) (a : ℕ) (o : Option (Bor ℕ)) → IsItemAt s a o → option_copied o ≡ item_at s a 1
 unfolding item_at
-byte_found s a (Some b) h = ap Some (let e = h.3.1 0 in omega arith) ∙ ap (λ t. cond (t && true) (Some (0 * 256 + get_or s a 0)) None) h.0
+byte_found s a (Some b) h = ap Some (let e = h.3.1 0 in omega arith) ∙ ap
+    (λ t. cond (t && true) (Some (0 * 256 + get_or s a 0)) None) h.0
 byte_found s a None h = simp (sym h.0)
 
 -- the bytes at these addresses, or nothing if one is not in storage

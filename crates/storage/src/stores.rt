@@ -24,10 +24,7 @@ fn put_word(part: &mut [u8], value: u32)
     requires { length part.old ≡ 4 }
     ensures { part.new ≡ word_bytes value }
 {
-    part[0] = (value / 16777216 % 256) as u8;
-    part[1] = (value / 65536 % 256) as u8;
-    part[2] = (value / 256 % 256) as u8;
-    part[3] = (value % 256) as u8;
+    part.copy_from_slice(&value.to_be_bytes());
 }
 
 pub fn store_byte(storage: &mut [u8], keys: &mut [u8], at: u32, value: u32)

@@ -34,10 +34,11 @@ fn put_bytes(
     ensures { storage.new
         ≡ stored storage.old (first ∷ second ∷ third ∷ fourth ∷ []) value }
 {
-    storage[first] = (value / 16777216 % 256) as u8;
-    storage[second] = (value / 65536 % 256) as u8;
-    storage[third] = (value / 256 % 256) as u8;
-    storage[fourth] = (value % 256) as u8;
+    let bytes = value.to_be_bytes();
+    storage[first] = bytes[0];
+    storage[second] = bytes[1];
+    storage[third] = bytes[2];
+    storage[fourth] = bytes[3];
 }
 
 // A swap word that was fetched. It may go round the top of storage, or stand across a block boundary.

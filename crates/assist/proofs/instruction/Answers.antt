@@ -51,10 +51,12 @@ returns-then-operation-eq128 c =
     (chosen _ _ _ (begin _ _) (eq-eqb _ _ (sym c.operation-operation.ensures ∙ c.if-operation-eq128.true)))
     c.set_system_mask.ensures
 
-abbrev not_ssm : (c : Else-operation-eq128) → Reached {S = Unit {0}} (λ u. machine c.args.storage.now c.args.keys.now) (λ u. instruction c.args.call)
+abbrev not_ssm : (c : Else-operation-eq128) → Reached {S = Unit {0}} (λ u. machine c.args.storage.now c.args.keys.now)
+    (λ u. instruction c.args.call)
 unfolding instruction
 not_ssm c =
-    reached tt (rejected _ _ _ (begin _ _) (ne_eqb _ _ (λ e. c.if-operation-eq128.false (c.operation-operation.ensures ∙ e))))
+    reached tt (rejected _ _ _ (begin _ _) (ne_eqb _ _
+    (λ e. c.if-operation-eq128.false (c.operation-operation.ensures ∙ e))))
 
 pub returns-then-operation-eq182 : goal.returns-then-operation-eq182
 unfolding instruction not_ssm
@@ -64,11 +66,13 @@ returns-then-operation-eq182 c =
     (chosen _ _ _ here.runs (eq-eqb _ _ (sym c.operation-operation.ensures ∙ c.if-operation-eq182.true)))
     c.store_control.ensures
 
-abbrev not_stctl : (c : Else-operation-eq182) → Reached {S = Unit {0}} (λ u. machine c.args.storage.now c.args.keys.now) (λ u. instruction c.args.call)
+abbrev not_stctl : (c : Else-operation-eq182) → Reached {S = Unit {0}}
+    (λ u. machine c.args.storage.now c.args.keys.now) (λ u. instruction c.args.call)
 unfolding instruction not_ssm
 not_stctl c =
     let here = not_ssm (goal.at.Else-operation-eq182 c).Else-operation-eq128 in
-    reached tt (rejected _ _ _ here.runs (ne_eqb _ _ (λ e. c.if-operation-eq182.false (c.operation-operation.ensures ∙ e))))
+    reached tt (rejected _ _ _ here.runs (ne_eqb _ _
+    (λ e. c.if-operation-eq182.false (c.operation-operation.ensures ∙ e))))
 
 pub returns-in-Some : goal.returns-in-Some
 unfolding instruction not_ssm not_stctl
@@ -79,7 +83,8 @@ returns-in-Some c =
     (sym (ap change_by c.operation-operation.ensures) ∙ sym c.mask_change.ensures ∙ c.in-Some.is))
     c.store_then.ensures
 
-abbrev not_mask : (c : In_default) → Reached {S = Unit {0}} (λ u. machine c.args.storage.now c.args.keys.now) (λ u. instruction c.args.call)
+abbrev not_mask : (c : In_default) → Reached {S = Unit {0}} (λ u. machine c.args.storage.now c.args.keys.now)
+    (λ u. instruction c.args.call)
 unfolding instruction not_ssm not_stctl
 not_mask c =
     let here = not_stctl (goal.at.In_default c).Else-operation-eq182 in
@@ -95,11 +100,13 @@ returns-then-operation-eq8 c =
     (chosen _ _ _ here.runs (eq-eqb _ _ (sym c.operation-operation.ensures ∙ c.if-operation-eq8.true)))
     c.set_storage_key.ensures
 
-abbrev not_ssk : (c : Else-operation-eq8) → Reached {S = Unit {0}} (λ u. machine c.args.storage.now c.args.keys.now) (λ u. instruction c.args.call)
+abbrev not_ssk : (c : Else-operation-eq8) → Reached {S = Unit {0}} (λ u. machine c.args.storage.now c.args.keys.now)
+    (λ u. instruction c.args.call)
 unfolding instruction not_ssm not_stctl not_mask
 not_ssk c =
     let here = not_mask (goal.at.Else-operation-eq8 c).In_default in
-    reached tt (rejected _ _ _ here.runs (ne_eqb _ _ (λ e. c.if-operation-eq8.false (c.operation-operation.ensures ∙ e))))
+    reached tt (rejected _ _ _ here.runs (ne_eqb _ _
+    (λ e. c.if-operation-eq8.false (c.operation-operation.ensures ∙ e))))
 
 pub returns-then-operation-eq9 : goal.returns-then-operation-eq9
 unfolding instruction not_ssm not_stctl not_mask not_ssk
@@ -109,11 +116,13 @@ returns-then-operation-eq9 c =
     (chosen _ _ _ here.runs (eq-eqb _ _ (sym c.operation-operation.ensures ∙ c.if-operation-eq9.true)))
     c.insert_storage_key.ensures
 
-abbrev not_isk : (c : Else-operation-eq9) → Reached {S = Unit {0}} (λ u. machine c.args.storage.now c.args.keys.now) (λ u. instruction c.args.call)
+abbrev not_isk : (c : Else-operation-eq9) → Reached {S = Unit {0}} (λ u. machine c.args.storage.now c.args.keys.now)
+    (λ u. instruction c.args.call)
 unfolding instruction not_ssm not_stctl not_mask not_ssk
 not_isk c =
     let here = not_ssk (goal.at.Else-operation-eq9 c).Else-operation-eq8 in
-    reached tt (rejected _ _ _ here.runs (ne_eqb _ _ (λ e. c.if-operation-eq9.false (c.operation-operation.ensures ∙ e))))
+    reached tt (rejected _ _ _ here.runs (ne_eqb _ _
+    (λ e. c.if-operation-eq9.false (c.operation-operation.ensures ∙ e))))
 
 pub returns-then-operation-eq177 : goal.returns-then-operation-eq177
 unfolding instruction not_ssm not_stctl not_mask not_ssk not_isk

@@ -23,7 +23,8 @@ storage c =
 pub returns-then-is_wrong_storage : goal.returns-then-is_wrong_storage
 unfolding admitted storage
 returns-then-is_wrong_storage c =
-    rw c.stop.ensures (stopped_with (storage (goal.at.returns-then-is_wrong_storage c).After-is_wrong_storage) c.if-is_wrong_storage.true)
+    rw c.stop.ensures (stopped_with
+    (storage (goal.at.returns-then-is_wrong_storage c).After-is_wrong_storage) c.if-is_wrong_storage.true)
 
 -- 11
 abbrev keys : (c : After-is_wrong_keys)
@@ -37,7 +38,8 @@ keys c =
 pub returns-then-is_wrong_keys : goal.returns-then-is_wrong_keys
 unfolding admitted storage keys
 returns-then-is_wrong_keys c =
-    rw c.stop-then-is_wrong_keys.ensures (stopped_with (keys (goal.at.returns-then-is_wrong_keys c).After-is_wrong_keys) c.if-is_wrong_keys.true)
+    rw c.stop-then-is_wrong_keys.ensures (stopped_with
+    (keys (goal.at.returns-then-is_wrong_keys c).After-is_wrong_keys) c.if-is_wrong_keys.true)
 
 -- 12
 abbrev odd : (c : After-is_odd)
@@ -65,7 +67,8 @@ assisted c =
 pub returns-then-not-is_assisted : goal.returns-then-not-is_assisted
 unfolding admitted storage keys odd assisted
 returns-then-not-is_assisted c =
-    rw c.stop-then-not-is_assisted.ensures (stopped_with (assisted (goal.at.returns-then-not-is_assisted c).After-is_assisted) (ap not c.if-not-is_assisted.true))
+    rw c.stop-then-not-is_assisted.ensures (stopped_with
+    (assisted (goal.at.returns-then-not-is_assisted c).After-is_assisted) (ap not c.if-not-is_assisted.true))
 
 -- 9
 abbrev mode : (c : After-is_wrong_mode)
@@ -73,13 +76,15 @@ abbrev mode : (c : After-is_wrong_mode)
     (λ u. program (length c.args.storage.now) (length c.args.keys.now) c.args.call)
 unfolding admitted storage keys odd assisted
 mode c =
-    let here = passed (assisted (goal.at.After-is_wrong_mode c).After-is_assisted) (ap not c.if-not-is_assisted.false) in
+    let here = passed (assisted (goal.at.After-is_wrong_mode c).After-is_assisted)
+    (ap not c.if-not-is_assisted.false) in
     tests tt _ _ _ here.runs c.is_wrong_mode.result c.is_wrong_mode.ensures
 
 pub returns-then-is_wrong_mode : goal.returns-then-is_wrong_mode
 unfolding admitted storage keys odd assisted mode
 returns-then-is_wrong_mode c =
-    rw c.stop-then-is_wrong_mode.ensures (stopped_with (mode (goal.at.returns-then-is_wrong_mode c).After-is_wrong_mode) c.if-is_wrong_mode.true)
+    rw c.stop-then-is_wrong_mode.ensures (stopped_with
+    (mode (goal.at.returns-then-is_wrong_mode c).After-is_wrong_mode) c.if-is_wrong_mode.true)
 
 -- and then the instruction
 pub returns : goal.returns

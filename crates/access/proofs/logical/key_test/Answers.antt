@@ -33,7 +33,8 @@ test s c =
 pub returns-then-not-passes : goal.returns-then-not-passes
 unfolding key_test key test
 returns-then-not-passes c =
-    λ s. rw c.stop.ensures (stopped (test s (goal.at.returns-then-not-passes c).After-passes) (ap not c.if-not-passes.true))
+    λ s. rw c.stop.ensures (stopped (test s (goal.at.returns-then-not-passes c).After-passes)
+    (ap not c.if-not-passes.true))
 
 pub returns : goal.returns
 unfolding key_test key test

@@ -16,7 +16,8 @@ entry g c =
     let a = c.args in
     asks tt _ _ (begin _ _) c.read.result a.storage.now c.read.new.keys
     (fresh _ _ (c.read.ensures
-    ∙ ap (λ x. seen (g.E.Entries.entry a.entries 2 x) (machine a.storage.now a.keys.now)) c.page_entry_at-place.ensures))
+    ∙ ap (λ x. seen (g.E.Entries.entry a.entries 2 x)
+    (machine a.storage.now a.keys.now)) c.page_entry_at-place.ensures))
 
 pub returns-in_err-entry : goal.returns-in_err-entry
 unfolding page_walk entry

@@ -15,9 +15,11 @@ abbrev entry : (g : _) (c : After-read g) (beyond : c.is_beyond_segments.result 
 unfolding segment_walk
 entry g c beyond =
     let a = c.args in
-    asks tt _ _ (rejected _ _ _ (begin _ _) (sym c.is_beyond_segments.ensures ∙ beyond)) c.read.result a.storage.now c.read.new.keys
+    asks tt _ _ (rejected _ _ _ (begin _ _) (sym c.is_beyond_segments.ensures
+    ∙ beyond)) c.read.result a.storage.now c.read.new.keys
     (fresh _ _ (c.read.ensures
-    ∙ ap (λ x. seen (g.E.Entries.entry a.entries 4 x) (machine a.storage.now a.keys.now)) c.segment_entry_at-place.ensures))
+    ∙ ap (λ x. seen (g.E.Entries.entry a.entries 4 x)
+    (machine a.storage.now a.keys.now)) c.segment_entry_at-place.ensures))
 
 pub returns-then-is_beyond_segments : goal.returns-then-is_beyond_segments
 unfolding segment_walk
@@ -28,8 +30,8 @@ returns-then-is_beyond_segments g c =
 pub returns-in_err-entry : goal.returns-in_err-entry
 unfolding segment_walk entry
 returns-in_err-entry g c =
-    read_handed (entry g (goal.at.returns-in_err-entry g c).After-read c.if-is_beyond_segments.false) c.walked.result c.from_residual.result
-    c.walked.ensures c.in_err-entry.was c.from_residual.ensures.1
+    read_handed (entry g (goal.at.returns-in_err-entry g c).After-read c.if-is_beyond_segments.false)
+    c.walked.result c.from_residual.result c.walked.ensures c.in_err-entry.was c.from_residual.ensures.1
 
 pub returns : goal.returns
 unfolding segment_walk

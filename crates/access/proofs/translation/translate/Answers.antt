@@ -18,7 +18,8 @@ unfolding translate
 returns c =
     let a = c.args in
     let m = machine a.storage.now a.keys.now in
-    let here = formed (Interruption TranslationSpecification) _ _ (begin m _) c.format_of.result (c.format_of.ensures _ m) c.in-Some.is in
+    let here = formed (Interruption TranslationSpecification) _ _ (begin m _) c.format_of.result
+    (c.format_of.ensures _ m) c.in-Some.is in
     last here
     (walk_ended (exception a.at) c.table_walk.result c.excepted.result a.storage.now c.table_walk.new.keys _ _
     c.excepted.ensures c.table_walk.ensures)

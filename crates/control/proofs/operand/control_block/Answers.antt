@@ -18,7 +18,8 @@ creg c =
 pub returns-then-not-assists_control : goal.returns-then-not-assists_control
 unfolding control_block
 returns-then-not-assists_control c =
-    rw c.refuse.ensures (stops _ _ _ (begin _ _) (ap not (sym c.assists_control.ensures ∙ c.if-not-assists_control.true)))
+    rw c.refuse.ensures (stops _ _ _ (begin _ _) (ap not
+    (sym c.assists_control.ensures ∙ c.if-not-assists_control.true)))
 
 pub returns-in_err-creg : goal.returns-in_err-creg
 unfolding control_block creg

@@ -13,12 +13,13 @@ loop-real-init c =
 pub loop-real-preserved : goal.loop-real-preserved
 loop-real-preserved c =
     let next = c.in-Some.ensures.steps in
-    rw c.store_word.ensures (word_turn (machine c.loop-real.storage c.loop-real.keys) _ _ _ next.0 next.1 c.loop-real.invariant)
+    let l = c.loop-real in
+    rw c.store_word.ensures (word_turn (machine l.storage l.keys) _ _ _ next.0 next.1 l.invariant)
 
 pub returns : goal.returns
 returns c =
     let l = c.loop-real in
     let left = l.real-iterator in
     let none = none_left left.a.rest.now left.b.rest.now
-        (elim c.in-None.ensures.steps [ inl x ↦ inl x.1.0 | inr x ↦ inr x.1.0 ]) in
+    (elim c.in-None.ensures.steps [ inl x ↦ inl x.1.0 | inr x ↦ inr x.1.0 ]) in
     ap (perform_all (machine l.storage l.keys)) (sym none) ∙ l.invariant

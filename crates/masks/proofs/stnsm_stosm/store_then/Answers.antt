@@ -31,7 +31,8 @@ use Rattle.masks.proofs.stnsm_stosm.store_then.Goals.{
 
 -- step 1
 abbrev assisted : (c : After-assists_control)
-    → Tested {S = Unit {0}} (λ u. machine c.args.storage.now c.args.keys.now) (λ u. store_then c.args.change c.args.call)
+    → Tested {S = Unit {0}} (λ u. machine c.args.storage.now c.args.keys.now)
+    (λ u. store_then c.args.change c.args.call)
 unfolding store_then
 assisted c =
     tests tt _ _ _ (begin _ _) (not c.assists_control.result) (ap not c.assists_control.ensures)
@@ -44,7 +45,8 @@ returns-then-not-assists_control c =
 
 -- step 2: MICVPSW
 abbrev vpsw : (c : After-micblok_word)
-    → Asked {S = Unit {0}} (λ u. machine c.args.storage.now c.args.keys.now) (λ u. store_then c.args.change c.args.call) ℕ
+    → Asked {S = Unit {0}} (λ u. machine c.args.storage.now c.args.keys.now)
+    (λ u. store_then c.args.change c.args.call) ℕ
 unfolding store_then assisted
 vpsw c =
     let test = assisted (goal.at.After-micblok_word c).After-assists_control in
@@ -59,7 +61,8 @@ returns-in_err-vpsw c =
 
 -- step 3: the first halfword of the virtual PSW
 abbrev first : (c : After-after)
-    → Asked {S = Unit {0}} (λ u. machine c.args.storage.now c.args.keys.now) (λ u. store_then c.args.change c.args.call) ℕ
+    → Asked {S = Unit {0}} (λ u. machine c.args.storage.now c.args.keys.now)
+    (λ u. store_then c.args.change c.args.call) ℕ
 unfolding store_then assisted vpsw
 first c =
     let here = given (vpsw (goal.at.After-after c).After-micblok_word) c.in_ok-vpsw.was in
@@ -79,7 +82,8 @@ changed c =
     simp (c.mask_in-old.ensures.0, c.immediate.ensures) at c.new_mask-new.ensures
 
 abbrev expands : (c : After-needs_expanded)
-    → Tested {S = Unit {0}} (λ u. machine c.args.storage.now c.args.keys.now) (λ u. store_then c.args.change c.args.call)
+    → Tested {S = Unit {0}} (λ u. machine c.args.storage.now c.args.keys.now)
+    (λ u. store_then c.args.change c.args.call)
 unfolding store_then assisted vpsw first
 expands c =
     let here = given (first (goal.at.After-needs_expanded c).After-after) c.in_ok-first.was in
@@ -99,7 +103,8 @@ returns-then-needs_expanded c =
 
 -- steps 5 and 6: the operand
 abbrev operand : (c : After-after-2)
-    → Asked {S = Unit {0}} (λ u. machine c.args.storage.now c.args.keys.now) (λ u. store_then c.args.change c.args.call) ℕ
+    → Asked {S = Unit {0}} (λ u. machine c.args.storage.now c.args.keys.now)
+    (λ u. store_then c.args.change c.args.call) ℕ
 unfolding store_then assisted vpsw first expands
 operand c =
     let test = expands (goal.at.After-after-2 c).After-needs_expanded in

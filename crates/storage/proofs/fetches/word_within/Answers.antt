@@ -19,4 +19,5 @@ returns-in_err-value c =
 pub returns : goal.returns
 returns c =
     let a = c.args in
-    λ e. fetches a.storage.now a.keys.now a.at 4 e _ (c.in_ok-value.ensures) (one_block a.at c.requires Fetch a.keys.now c.record_byte.ensures)
+    λ e. fetches a.storage.now a.keys.now a.at 4 e _ (c.in_ok-value.ensures)
+    (one_block a.at c.requires Fetch a.keys.now c.record_byte.ensures)

@@ -5,7 +5,8 @@ use Rattle.storage.proofs.items.halfword_at.Goals as goal
 
 pub returns-in_err-left : goal.returns-in_err-left
 returns-in_err-left c =
-    c.from_residual.ensures ∙ left_missing _ _ _ _ (halfword_joined c.args.storage.now c.args.at) (c.in_err-left.ensures)
+    c.from_residual.ensures ∙ left_missing _ _ _ _ (halfword_joined c.args.storage.now c.args.at)
+    (c.in_err-left.ensures)
 
 pub returns-in_err-right : goal.returns-in_err-right
 returns-in_err-right c =

@@ -9,4 +9,9 @@ returns-in_default c = λ s. simp (c.stop.ensures, sym (c.in_default.ensures).lo
 
 pub returns : goal.returns
 unfolding consult_key seen
-returns c = λ s. simp (sym (c.in-Some.ensures).lookup.0, c.seen_as.ensures, c.from.ensures, (c.in-Some.ensures).lookup.3.1 0)
+returns c = λ s. simp (
+  sym (c.in-Some.ensures).lookup.0,
+  c.seen_as.ensures,
+  c.from.ensures,
+  (c.in-Some.ensures).lookup.3.1 0,
+)

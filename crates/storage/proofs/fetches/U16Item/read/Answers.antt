@@ -10,4 +10,5 @@ returns-in_err-value c =
 pub returns : goal.returns
 returns c =
     let a = c.args in
-    λ e. fetches a.storage.now a.keys.now a.at 2 e _ (ap Some c.from.ensures ∙ c.in_ok-value.ensures) c.record_halfword.ensures
+    λ e. fetches a.storage.now a.keys.now a.at 2 e _
+    (ap Some c.from.ensures ∙ c.in_ok-value.ensures) c.record_halfword.ensures

@@ -12,4 +12,5 @@ returns-in_err-value c =
 pub returns : goal.returns
 returns c =
     let a = c.args in
-    λ e. fetches a.storage.now a.keys.now a.at 1 e _ (ap Some c.from.ensures ∙ c.in_ok-value.ensures) (c.record_byte.ensures ∙ byte_marked (marking Fetch) a.keys.now a.at)
+    λ e. fetches a.storage.now a.keys.now a.at 1 e _ (ap Some c.from.ensures ∙ c.in_ok-value.ensures)
+    (c.record_byte.ensures ∙ byte_marked (marking Fetch) a.keys.now a.at)

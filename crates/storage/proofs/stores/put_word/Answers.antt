@@ -1,5 +1,0 @@
-use Rattle.rules.proofs.Bytes.{four_set}
-use Rattle.storage.proofs.stores.put_word.Goals as goal
-
-pub returns : goal.returns
-returns c = four_set c.args.part.now _ _ _ _ c.requires

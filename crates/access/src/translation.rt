@@ -18,8 +18,8 @@ fn format(page: PageSize, segment: SegmentSize) -> Option<Format>
     Some(Format { page, segment })
 }
 
-// Step 1: control register 0 bits 8-12. By `if`, since in the last arm of a `match` on numbers a proof does not have that
-// the others were passed over.
+// Step 1: control register 0 bits 8-12. By `if`, since in the last arm of a `match` on numbers a proof does not have
+// that the others were passed over.
 #[inline(always)]
 pub fn format_of(cr0: u32) -> Option<Format>
     ensures { (unknown : Ending) (m : Machine) → formatted unknown result m ≡ seen (format_of unknown cr0) m }

@@ -42,10 +42,11 @@ pub(crate) fn new_key(key: u32, old: u32) -> u8
 pub(crate) fn virtual_key(page: FoundPage) -> u8
     ensures { result ≡ virtual_key page }
 {
+    let bytes = page.swap.to_be_bytes();
     if page.upper {
-        return (page.swap % 256) as u8;
+        return bytes[3];
     }
-    (page.swap / 256 % 256) as u8
+    bytes[2]
 }
 
 // A key with its reference bit zero.
@@ -68,7 +69,7 @@ pub(crate) fn marks_with(page: FoundPage, marks: u32) -> u32
     requires { marks < 4 }
     ensures { result ≡ bit_or marks (bits 8 5 6 (virtual_key page)) }
 {
-    either(marks, (virtual_key(page) / 2 % 4) as u32)
+    either(marks, u32::from(virtual_key(page) / 2 % 4))
 }
 
 // ISK, Figure 6: bits 24-31 of R1.
@@ -78,17 +79,17 @@ pub(crate) fn inserted_key(extended: bool, key: u8, marks: u32) -> u8
 {
     let access = key / 8 % 32 * 8;
     if extended {
-        return access + (either((key / 2 % 4) as u32, marks) * 2) as u8;
+        return access + (either(u32::from(key / 2 % 4), marks) * 2) as u8;
     }
     access
 }
 
 // A byte with backup bits ORed in.
-fn marked(byte: u32, marks: u32) -> u32
-    requires { (byte < 256) × (marks < 256) }
-    ensures { (result ≡ bit_or byte marks) × (result < 256) }
+fn marked(byte: u8, marks: u32) -> u8
+    requires { marks < 256 }
+    ensures { result ≡ bit_or byte marks }
 {
-    byte | marks
+    byte | marks as u8
 }
 
 // A page's swap word with another virtual key, and reference and change bits ORed into bits 4 and 5, or for the upper
@@ -97,13 +98,11 @@ pub(crate) fn swap_with(page: FoundPage, key: u8, marks: u32) -> u32
     requires { marks < 4 }
     ensures { result ≡ swap_with page key marks }
 {
-    let word = page.swap;
-    let left = word / 16777216 % 256;
-    let second = word / 65536 % 256 * 65536;
+    let bytes = page.swap.to_be_bytes();
     if page.upper {
-        return marked(left, marks) * 16777216 + second + word / 256 % 256 * 256 + key as u32;
+        return u32::from_be_bytes([marked(bytes[0], marks), bytes[1], bytes[2], key]);
     }
-    marked(left, marks * 4) * 16777216 + second + key as u32 * 256 + word % 256
+    u32::from_be_bytes([marked(bytes[0], marks * 4), bytes[1], key, bytes[3]])
 }
 
 // SSK, step 12: R1 bits 24-30 and a zero in the swap word.
@@ -119,5 +118,5 @@ pub(crate) fn reset_word(page: FoundPage, marks: u32) -> u32
     requires { marks < 4 }
     ensures { result ≡ swap_with page (unreferred (virtual_key page)) marks }
 {
-    swap_with(page, unreferred(virtual_key(page) as u32), marks)
+    swap_with(page, unreferred(u32::from(virtual_key(page))), marks)
 }

@@ -21,6 +21,7 @@ impl Edge {
             .word(OPERAND, u32::from_be_bytes([new, 0, 0, 0]))
     }
 
+    // STNSM and STOSM differ in the operation code, for which each has its name: a line each, and plainer so.
     pub(crate) fn stnsm(old: u8, mode: u8, immediate: u8) -> Edge {
         Edge::new(u16::from_be_bytes([0xAC, immediate])).virtual_psw(old, mode)
     }

@@ -50,6 +50,7 @@ impl<'a, R: Read> Run<'a, R> {
 
     // One line of the input, and what it does. The last breaks off the run.
     fn step(&mut self, rt: &impl Print) -> Result<ControlFlow<()>, Stop> {
+        // a line's text, in as many bytes as the longest has: there is no heap
         let mut text = [0u8; LONGEST];
         let Run { source, machine } = self;
         match source.next(&mut text)? {

@@ -1,11 +1,12 @@
 -- Walks beside the reading program: what `Stages` of the storage crate has for a step, here for a walk.
 use Rattle.std.proofs.Common.{◌≡◌, ℕ, ◌+◌, ◌%◌, ◌^◌, List, Option, Some, None, Result, Ok, Err, IsErrAnd, is_ok, true≢false, sym, refl, ap, ◌∙◌, arith}
 use Rattle.std.proofs.lemmas.Result.{err_from_is_err_and}
+use mathlib.Core.Path.{fun_ext}
 use Rattle.rules.specs.declared.endings.Ending.{Ending}
 use Rattle.rules.specs.declared.tables.Format.{Format}
 use Rattle.rules.specs.declared.tables.TableFault.{TableFault}
 use Rattle.rules.specs.Machine.{Machine}
-use Rattle.rules.specs.Steps.{Steps, ◌>>=◌}
+use Rattle.rules.specs.Steps.{Steps, done, stop, fetch, key, branch, ◌>>=◌}
 use Rattle.rules.specs.Translation.{format_of, Walk, found, fault, onward, found_or}
 use Rattle.storage.specs.declared.steps.Counted.{Counted}
 use Rattle.storage.specs.Answers.{machine, went, over, Step, counted, told, seen, later}
@@ -48,6 +49,20 @@ walk_ended on w r s ks p m e h = ap (λ x. told x s ks) e ∙ go w h
     go : (w : Walked) → told_walk w s ks ≡ seen p m → told (ended_by on w) s ks ≡ seen (p >>= found_or on) m
     go (Ok x) h = settles x.value (goes p (found_or on) (begin m (p >>= found_or on)) (fresh p m h))
     go (Err x) h = by x.value x.count h
+
+-- ---- a walk whose faults are endings is its two halves, each with them
+
+pub walk_halves : (on : TableFault → Ending) (next : ℕ → Steps Walk) (p : Steps Walk)
+    → ((p >>= onward next) >>= found_or on) ≡ ((p >>= found_or on) >>= λ v. next v >>= found_or on)
+unfolding ◌>>=◌
+walk_halves on next (done (found v)) = refl
+walk_halves on next (done (fault x at)) = refl
+walk_halves on next (stop e) = refl
+walk_halves on next (fetch a n e k) = ap (fetch a n e) (fun_ext (λ v. walk_halves on next (k v)))
+walk_halves on next (key u b e k) = ap (key u b e) (fun_ext (λ v. walk_halves on next (k v)))
+walk_halves on next (branch b p q) =
+    ap (λ x. branch b x ((q >>= onward next) >>= found_or on)) (walk_halves on next p)
+    ∙ ap (branch b ((p >>= found_or on) >>= λ v. next v >>= found_or on)) (walk_halves on next q)
 
 -- ---- the format, after n references
 

@@ -72,8 +72,8 @@ fn try_more_room(rt: &impl Print, last: Entry) -> io::Result<()> {
 
 fn trailer(words: [u32; 4]) -> [u8; TRAILER_BYTES] {
     let mut bytes = [0; TRAILER_BYTES];
-    for (i, byte) in bytes.iter_mut().enumerate() {
-        *byte = words[i / 4].to_be_bytes()[i % 4];
+    for (i, word) in words.iter().enumerate() {
+        bytes[4 * i..4 * i + 4].copy_from_slice(&word.to_be_bytes());
     }
     bytes
 }

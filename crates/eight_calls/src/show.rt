@@ -8,20 +8,22 @@ pub(crate) const TRAILER_BYTES: usize = 16;
 
 const LINE_BYTES: usize = 32;
 
-// What a call on a trail hands back, by its numbers: no refusal is zero, and a call that is refused hands back the
-// number of records held that it was given.
+// What a call on a trail hands back: a call that is refused hands back the number of records held that it was given.
 #[derive(Clone, Copy)]
 pub(crate) struct Outcome {
-    refusal: u32,
+    refusal: Option<Refusal>,
     pub(crate) held: u32,
 }
 
 impl Outcome {
     pub(crate) fn of(written: Result<u32, Refusal>, given: u32) -> Outcome {
         match written {
-            Ok(held) => Outcome { refusal: 0, held },
+            Ok(held) => Outcome {
+                refusal: None,
+                held,
+            },
             Err(refusal) => Outcome {
-                refusal: refusal.number(),
+                refusal: Some(refusal),
                 held: given,
             },
         }
@@ -30,7 +32,8 @@ impl Outcome {
 
 impl fmt::Display for Outcome {
     fn fmt<W: fmt::Write>(&self, f: &mut fmt::Formatter<W>) -> fmt::Result {
-        write!(f, "refusal {}, held {}", self.refusal, self.held)
+        let number = self.refusal.map_or(0, |refusal| refusal.number());
+        write!(f, "refusal {number}, held {}", self.held)
     }
 }
 

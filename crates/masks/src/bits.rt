@@ -29,7 +29,7 @@ pub(crate) fn bit(mask: u32, place: u32) -> bool
     (mask >> (7 - place)) % 2 == 1
 }
 
-// A bit goes from zero to one.
+// A bit goes from zero to one. The two masks go as two: with them exchanged it is a bit that falls.
 pub(crate) fn rises(old: u32, new: u32, place: u32) -> bool
     requires { place < 8 }
     ensures { result ≡ rises old new place }

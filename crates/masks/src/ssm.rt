@@ -66,10 +66,7 @@ fn mask_target(storage: &[u8], keys: &mut [u8], call: Call, new: u32) -> Step<u3
     let pending = access::is_pending(vpsw.value);
     let old = mask_in(first.value);
     if ec & mask_needs_expanded(pending, old, new) {
-        return Err(Counted {
-            value: call.expanded(),
-            count: first.count,
-        });
+        return storage::stop(call.expanded(), first.count);
     }
     if !ec & any_rises_pending(pending, old, new) {
         return storage::refuse(first.count);

@@ -6,7 +6,7 @@ ghost use Rattle.storage.specs.Answers.{machine, told, seen, finished, finish};
 
 use crate::bits::{any_rises_pending, is_extended, mask_in, put_mask, rises};
 use rules::{Call, Guest, MaskChange, RecordChange};
-use storage::{After, Counted, Step};
+use storage::{After, Step};
 
 // Step 4: the new mask.
 fn new_mask(change: MaskChange, old: u32, immediate: u32) -> u32
@@ -69,10 +69,7 @@ pub fn store_then(
         old,
         new,
     ) {
-        return Err(Counted {
-            value: call.expanded(),
-            count: first.count,
-        });
+        return storage::stop(call.expanded(), first.count);
     }
     // 5 and 6
     let operand = byte_operand(storage, keys, guest).after(first.count)?;

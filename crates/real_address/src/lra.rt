@@ -7,7 +7,7 @@ ghost use Rattle.storage.specs.Answers.{machine, seen, finished, finish};
 
 use access::WalkEnd;
 use rules::{Call, Format, RecordChange, TableFault};
-use storage::{After, Counted, Step};
+use storage::{After, Step};
 
 fn loaded(code: u32, address: u32) -> Step<RecordChange>
     ensures { (s ks : List ℕ) → finished result s ks ≡ finish (seen (loaded code address) (machine s ks)) }
@@ -49,10 +49,7 @@ fn load_by(
         Ok(real) => loaded(0, real.value).after(real.count),
         Err(end) => match end.value {
             WalkEnd::Fault(kind, entry) => faulted(kind, entry).after(end.count),
-            WalkEnd::Ended(ending) => Err(Counted {
-                value: ending,
-                count: end.count,
-            }),
+            WalkEnd::Ended(ending) => storage::stop(ending, end.count),
         },
     }
 }

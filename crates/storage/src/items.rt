@@ -19,7 +19,7 @@ pub(crate) fn halfword_at(storage: &[u8], at: u32) -> Option<u16>
     Some(u16::from_be_bytes([left, right]))
 }
 
-// A word byte by byte, wherever its bytes are.
+// A word byte by byte, wherever its bytes are. Its halves are joined by arithmetic: std has no method for that.
 fn word_by_bytes(storage: &[u8], at: u32) -> Option<u32>
     ensures { result ≡ item_at storage.now at 4 }
 {

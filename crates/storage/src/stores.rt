@@ -35,6 +35,7 @@ pub fn store_byte(storage: &mut [u8], keys: &mut [u8], at: u32, value: u32)
     record_byte(keys, Access::Store, at);
 }
 
+// Each byte at its own address, which may be round the top; `put_byte` cuts it out of the number.
 fn put_bytes(storage: &mut [u8], at: u32, value: u32)
     ensures { storage.new ≡ stored storage.old (addresses at 4) value }
 {

@@ -7,7 +7,7 @@ use access::Real;
 use rules::{Ending, FieldNumbers, Format, Guest, PageSize};
 use storage::{Counted, Step};
 
-// What ending 3 carries. SSK: the step.
+// What ending 3 carries; by functions, since a constant has no clause. SSK: the step.
 pub(crate) fn steps() -> FieldNumbers
     ensures { result ≡ steps }
 {

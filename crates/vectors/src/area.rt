@@ -1,7 +1,8 @@
 // The bytes of a storage, or its keys.
 use crate::trouble::Trouble;
 
-// An array that has room for them: its first bytes are those that are there, once a line has given their number.
+// An array that has room for them, since there is no heap: its first bytes are those that are there, once a line has
+// given their number.
 #[derive(Drop)]
 pub(crate) struct Area<'a> {
     room: &'a mut [u8],

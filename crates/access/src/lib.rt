@@ -1,4 +1,7 @@
 // How an instruction reaches storage: translation, the access test, logical fetches, and the control program's fields.
+//
+// The format, the table or entry, and the address of a walk go one by one, as in the definitions: a value of the three
+// would be made anew for each half of a walk.
 #![tactic(auto)]
 
 mod control_fields;

@@ -18,7 +18,7 @@ pub fn store_control(storage: &mut [u8], keys: &mut [u8], call: Call) -> Step<Re
     let ecblok = control_block(storage, keys, guest)?;
     // 3 and 4
     let address = word_operand(storage, keys, guest).after(ecblok.count)?;
-    // 5: the registers, then the tests, and only then the stores
+    // 5: the registers, then the tests, and only then the stores: so values and addresses are two arrays
     let first = call.r1();
     let n = register_count(first, call.r2());
     let values = virtual_registers(storage, keys, ecblok.value, first, n).after(address.count)?;

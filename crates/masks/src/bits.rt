@@ -20,7 +20,8 @@ pub(crate) fn is_extended(first: u32) -> bool
     first / 8 % 2 == 1
 }
 
-// Is this bit of a mask one? Bit 0 is leftmost.
+// Is this bit of a mask one? Bit 0 is leftmost. A place is a number, and no type of its own, since `any` goes over the
+// numbers of all places.
 #[tactic(auto, using(crate::proofs::Shifts::bit_shifted))]
 pub(crate) fn bit(mask: u32, place: u32) -> bool
     requires { place < 8 }

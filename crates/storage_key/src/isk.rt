@@ -4,6 +4,7 @@ ghost use Rattle.rules.specs.InsertStorageKey.{insert_key, insert_block_key, ins
 ghost use Rattle.storage.specs.Answers.{machine, seen, finished, finish};
 
 use crate::keys::{address_word, assists_keys, inserted_key, virtual_key};
+use crate::marks::Marks;
 use crate::pages::find_page;
 use crate::tables::{places, segment_table};
 use rules::{Call, Ending, FoundPage, Guest, KeyUse, RecordChange};
@@ -16,11 +17,11 @@ fn insert_key(
     guest: Guest,
     page: FoundPage,
     tried: u32,
-    marks: u32,
+    marks: Marks,
 ) -> Step<RecordChange>
-    requires { (tried < 256) × (marks < 4) }
+    requires { tried < 256 }
     ensures { finished result storage.now keys.new
-        ≡ finish (seen (insert_key guest page tried marks) (machine storage.now keys.old)) }
+        ≡ finish (seen (insert_key guest page tried marks.bits) (machine storage.now keys.old)) }
 {
     // 12
     let vpsw = access::micblok_word(storage, keys, tried + 1, access::MICVPSW, guest)?;
@@ -44,7 +45,7 @@ fn insert_block_key(
         ≡ finish (seen (insert_block_key guest page block) (machine storage.now keys.old)) }
 {
     let key = storage::consult_key(keys, KeyUse::Whole, block, Ending::FieldMissing(6))?;
-    insert_key(storage, keys, guest, page, 6, key.value / 2 % 4).after(key.count)
+    insert_key(storage, keys, guest, page, 6, Marks::of(key.value)).after(key.count)
 }
 
 pub fn insert_storage_key(storage: &[u8], keys: &mut [u8], call: Call) -> Step<RecordChange>
@@ -61,6 +62,6 @@ pub fn insert_storage_key(storage: &[u8], keys: &mut [u8], call: Call) -> Step<R
     // 11: on an invalid page no key is tried
     match page.block {
         Some(block) => insert_block_key(storage, keys, guest, page, block).after(found.count),
-        None => insert_key(storage, keys, guest, page, 5, 0).after(found.count),
+        None => insert_key(storage, keys, guest, page, 5, Marks::none()).after(found.count),
     }
 }

@@ -6,6 +6,7 @@ ghost use Rattle.rules.specs.SetStorageKey.{key_word, new_key};
 ghost use Rattle.rules.specs.InsertStorageKey.{inserted_key};
 ghost use Rattle.rules.specs.ResetReferenceBit.{unreferred};
 
+use crate::marks::Marks;
 use rules::{Call, FoundPage};
 
 // SSK: the word in R1, whose bits 24-30 are the key.
@@ -56,67 +57,46 @@ pub(crate) fn unreferred(key: u32) -> u8
     (key / 8 % 32 * 8 + key % 4) as u8
 }
 
-// Reference and change bits, ORed.
-fn either(marks: u32, others: u32) -> u32
-    requires { (marks < 4) × (others < 4) }
-    ensures { (result ≡ bit_or marks others) × (result < 4) }
-{
-    marks | others
-}
-
 // Those of a page's block, each ORed with the virtual one: RRB's condition code.
-pub(crate) fn marks_with(page: FoundPage, marks: u32) -> u32
-    requires { marks < 4 }
-    ensures { result ≡ bit_or marks (bits 8 5 6 (virtual_key page)) }
+pub(crate) fn marks_with(page: FoundPage, marks: Marks) -> u32
+    ensures { result ≡ bit_or marks.bits (bits 8 5 6 (virtual_key page)) }
 {
-    either(marks, u32::from(virtual_key(page) / 2 % 4))
+    u32::from(marks.or(Marks::of(u32::from(virtual_key(page)))).bits)
 }
 
 // ISK, Figure 6: bits 24-31 of R1.
-pub(crate) fn inserted_key(extended: bool, key: u8, marks: u32) -> u8
-    requires { marks < 4 }
-    ensures { result ≡ inserted_key extended key marks }
+pub(crate) fn inserted_key(extended: bool, key: u8, marks: Marks) -> u8
+    ensures { result ≡ inserted_key extended key marks.bits }
 {
     let access = key / 8 % 32 * 8;
     if extended {
-        return access + (either(u32::from(key / 2 % 4), marks) * 2) as u8;
+        return access + Marks::of(u32::from(key)).or(marks).bits * 2;
     }
     access
 }
 
-// A byte with backup bits ORed in.
-fn marked(byte: u8, marks: u32) -> u8
-    requires { marks < 256 }
-    ensures { result ≡ bit_or byte marks }
-{
-    byte | marks as u8
-}
-
 // A page's swap word with another virtual key, and reference and change bits ORed into bits 4 and 5, or for the upper
 // block into 6 and 7.
-pub(crate) fn swap_with(page: FoundPage, key: u8, marks: u32) -> u32
-    requires { marks < 4 }
-    ensures { result ≡ swap_with page key marks }
+pub(crate) fn swap_with(page: FoundPage, key: u8, marks: Marks) -> u32
+    ensures { result ≡ swap_with page key marks.bits }
 {
     let bytes = page.swap.to_be_bytes();
     if page.upper {
-        return u32::from_be_bytes([marked(bytes[0], marks), bytes[1], bytes[2], key]);
+        return u32::from_be_bytes([bytes[0] | marks.bits, bytes[1], bytes[2], key]);
     }
-    u32::from_be_bytes([marked(bytes[0], marks * 4), bytes[1], key, bytes[3]])
+    u32::from_be_bytes([bytes[0] | marks.bits * 4, bytes[1], key, bytes[3]])
 }
 
 // SSK, step 12: R1 bits 24-30 and a zero in the swap word.
-pub(crate) fn swap_word(call: Call, page: FoundPage, marks: u32) -> u32
-    requires { marks < 4 }
-    ensures { result ≡ swap_with page (word 24 30 (key_word call) * 2) marks }
+pub(crate) fn swap_word(call: Call, page: FoundPage, marks: Marks) -> u32
+    ensures { result ≡ swap_with page (word 24 30 (key_word call) * 2) marks.bits }
 {
     swap_with(page, (key_word(call) / 2 % 128 * 2) as u8, marks)
 }
 
 // RRB, step 13: the virtual reference bit is zero there.
-pub(crate) fn reset_word(page: FoundPage, marks: u32) -> u32
-    requires { marks < 4 }
-    ensures { result ≡ swap_with page (unreferred (virtual_key page)) marks }
+pub(crate) fn reset_word(page: FoundPage, marks: Marks) -> u32
+    ensures { result ≡ swap_with page (unreferred (virtual_key page)) marks.bits }
 {
     swap_with(page, unreferred(u32::from(virtual_key(page))), marks)
 }

@@ -4,6 +4,7 @@
 
 mod isk;
 mod keys;
+mod marks;
 mod pages;
 mod rrb;
 mod ssk;

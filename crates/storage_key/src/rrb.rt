@@ -6,6 +6,7 @@ ghost use Rattle.rules.specs.ResetReferenceBit.{reset_block_key, reset_reference
 ghost use Rattle.storage.specs.Answers.{machine, seen, finished, finish};
 
 use crate::keys::{marks_with, reset_word, unreferred};
+use crate::marks::Marks;
 use crate::pages::find_page;
 use crate::stores::{put_key, put_swap_word};
 use crate::tables::{places, segment_table};
@@ -24,7 +25,7 @@ fn reset_block_key(
         ≡ finish (seen (reset_block_key page block) (machine storage.old keys.old)) }
 {
     let old = storage::consult_key(keys, KeyUse::Whole, block, Ending::FieldMissing(6))?;
-    let marks = old.value / 2 % 4;
+    let marks = Marks::of(old.value);
     // 12, and then 13
     put_key(keys, block, unreferred(old.value));
     put_swap_word(storage, keys, page.place, reset_word(page, marks));
@@ -50,8 +51,8 @@ pub fn reset_reference_bit(storage: &mut [u8], keys: &mut [u8], call: Call) -> S
         Some(block) => reset_block_key(storage, keys, page, block).after(found.count),
         None => {
             // 13
-            put_swap_word(storage, keys, page.place, reset_word(page, 0));
-            let change = RecordChange::ConditionCode(marks_with(page, 0));
+            put_swap_word(storage, keys, page.place, reset_word(page, Marks::none()));
+            let change = RecordChange::ConditionCode(marks_with(page, Marks::none()));
             storage::completed_as(change, found.count, 1)
         }
     }

@@ -6,6 +6,7 @@ ghost use Rattle.rules.specs.SetStorageKey.{set_block_key, set_storage_key};
 ghost use Rattle.storage.specs.Answers.{machine, seen, finished, finish};
 
 use crate::keys::{address_word, assists_keys, key_word, new_key, swap_word};
+use crate::marks::Marks;
 use crate::pages::find_page;
 use crate::stores::{put_key, put_swap_word};
 use crate::tables::{segment_table, steps};
@@ -32,7 +33,7 @@ fn set_block_key(
         storage,
         keys,
         page.place,
-        swap_word(call, page, old.value / 2 % 4),
+        swap_word(call, page, Marks::of(old.value)),
     );
     storage::completed(old.count, 2)
 }
@@ -52,7 +53,12 @@ pub fn set_storage_key(storage: &mut [u8], keys: &mut [u8], call: Call) -> Step<
         Some(block) => set_block_key(storage, keys, call, page, block).after(found.count),
         None => {
             // 12
-            put_swap_word(storage, keys, page.place, swap_word(call, page, 0));
+            put_swap_word(
+                storage,
+                keys,
+                page.place,
+                swap_word(call, page, Marks::none()),
+            );
             storage::completed(found.count, 1)
         }
     }

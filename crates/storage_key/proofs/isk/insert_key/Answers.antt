@@ -12,7 +12,7 @@ use Rattle.storage_key.proofs.isk.insert_key.Goals.{After-micblok_word, After-af
 -- step 12: MICVPSW
 abbrev vpsw : (c : After-micblok_word)
     → Asked {S = Unit {0}} (λ u. machine c.args.storage.now c.args.keys.now)
-    (λ u. insert_key c.args.guest c.args.page c.args.tried c.args.marks) ℕ
+    (λ u. insert_key c.args.guest c.args.page c.args.tried c.args.marks.bits) ℕ
 unfolding insert_key
 vpsw c =
     asks tt _ _ (begin _ _) c.micblok_word.result c.args.storage.now c.micblok_word.new.keys
@@ -27,7 +27,7 @@ returns-in_err-vpsw c =
 -- step 13: the virtual PSW
 abbrev first : (c : After-after)
     → Asked {S = Unit {0}} (λ u. machine c.args.storage.now c.args.keys.now)
-    (λ u. insert_key c.args.guest c.args.page c.args.tried c.args.marks) ℕ
+    (λ u. insert_key c.args.guest c.args.page c.args.tried c.args.marks.bits) ℕ
 unfolding insert_key vpsw
 first c =
     let here = given (vpsw (goal.at.After-after c).After-micblok_word) c.in_ok-vpsw.was in
@@ -46,6 +46,6 @@ unfolding insert_key vpsw first
 returns c =
     let here = given (first (goal.at.returns c).After-after) c.in_ok-first.was in
     let a = c.args in
-    completes_as (RegisterByte (inserted_key (extended_in c.in_ok-first.first.value) (virtual_key a.page) a.marks))
+    completes_as (RegisterByte (inserted_key (extended_in c.in_ok-first.first.value) (virtual_key a.page) a.marks.bits))
     a.storage.now c.control_field.new.keys [] here.runs
     (simp (c.inserted_key-key.ensures, c.virtual_key.ensures) at c.completed_as.ensures) refl

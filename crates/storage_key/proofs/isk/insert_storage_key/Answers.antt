@@ -51,4 +51,4 @@ unfolding insert_storage_key rseg found
 returns-in-None c =
     let here = given (found (goal.at.returns-in-None c).After-after) c.in_ok-found.was in
     finishes c.args.storage.now c.insert_key.new.keys (simp c.in-None.is at here.runs) c.after-in-None.ensures
-    c.insert_key.ensures
+    (simp c.none.ensures at c.insert_key.ensures)

@@ -46,7 +46,7 @@ returns c =
     let marks = bits 8 5 6 c.in_ok-old.old.value in
     let swap = swap_with a.page (unreferred (virtual_key a.page)) marks in
     let first = simp c.unreferred.ensures at (c.put_key.ensures a.storage.now) in
-    let second = simp c.reset_word.ensures at c.put_swap_word.ensures in
+    let second = simp (c.reset_word.ensures, c.of-marks.ensures) at c.put_swap_word.ensures in
     completes_as (ConditionCode (bit_or marks (bits 8 5 6 (virtual_key a.page)))) c.put_swap_word.new.storage
-    c.put_swap_word.new.keys _ here.runs (simp c.marks_with.ensures at c.completed_as.ensures)
+    c.put_swap_word.new.keys _ here.runs (simp (c.marks_with.ensures, c.of-marks.ensures) at c.completed_as.ensures)
     (second ∙ ap (λ m. perform m (store a.page.place 4 swap)) first)

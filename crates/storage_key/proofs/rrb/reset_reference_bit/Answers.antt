@@ -1,11 +1,11 @@
-use Rattle.std.proofs.Common.{ℕ, length}
+use Rattle.std.proofs.Common.{refl, ℕ, length}
 use lib.Bits.{bit_or}
 use Rattle.rules.specs.Bits.{bits}
 use Rattle.rules.specs.declared.record_change.RecordChange.TheVariants.{ConditionCode}
 use Rattle.rules.specs.declared.tables.FoundPage.{FoundPage}
 use Rattle.rules.specs.SwapTables.{virtual_key}
 use Rattle.rules.specs.ResetReferenceBit.{store_reset, reset_reference_bit}
-use Rattle.rules.proofs.Present.StorageKeys.{find_page-gives}
+use Rattle.storage_key.proofs.Way.{swap_there}
 use Rattle.storage.specs.Answers.{machine}
 use Rattle.storage.proofs.Laws.{begin, fresh, completes_as, finishes}
 use Rattle.storage.proofs.Stages.{Asked, asks, asks_after, given, sure, ended_with}
@@ -62,7 +62,7 @@ pub reset_block_key-requires : goal.reset_block_key-requires
 unfolding reset_reference_bit rseg second found
 reset_block_key-requires c =
     let asked = found (goal.at.reset_block_key-requires c).After-after-2 in
-    sure _ asked c.in_ok-found.was (find_page-gives (length asked.left.storage) (length asked.left.keys) _ _ _)
+    swap_there asked c.in_ok-found.was _ _ _ refl
 
 pub returns-in-Some : goal.returns-in-Some
 unfolding reset_reference_bit rseg second found
@@ -76,7 +76,7 @@ pub put_swap_word-requires : goal.put_swap_word-requires
 unfolding reset_reference_bit rseg second found
 put_swap_word-requires c =
     let asked = found (goal.at.put_swap_word-requires c).After-after-2 in
-    sure _ asked c.in_ok-found.was (find_page-gives (length asked.left.storage) (length asked.left.keys) _ _ _)
+    swap_there asked c.in_ok-found.was _ _ _ refl
 
 pub returns-in-None : goal.returns-in-None
 unfolding reset_reference_bit store_reset rseg second found
@@ -84,4 +84,5 @@ returns-in-None c =
     let here = given (found (goal.at.returns-in-None c).After-after-2) c.in_ok-found.was in
     completes_as (ConditionCode (bit_or 0 (bits 8 5 6 (virtual_key c.in_ok-found.found.value))))
     c.put_swap_word.new.storage c.put_swap_word.new.keys _ (simp c.in-None.is at here.runs)
-    (simp c.marks_with.ensures at c.completed_as.ensures) (simp c.reset_word.ensures at c.put_swap_word.ensures)
+    (simp (c.marks_with.ensures, c.none-in-None.ensures) at c.completed_as.ensures)
+    (simp (c.reset_word.ensures, c.none.ensures) at c.put_swap_word.ensures)

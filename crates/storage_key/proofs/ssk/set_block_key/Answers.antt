@@ -43,6 +43,6 @@ returns c =
     let a = c.args in
     let swap = swap_with a.page (word 24 30 (key_word a.call) * 2) (bits 8 5 6 c.in_ok-old.old.value) in
     let first = simp (c.new_key.ensures, c.key_word.ensures) at (c.put_key.ensures a.storage.now) in
-    let second = simp c.swap_word.ensures at c.put_swap_word.ensures in
+    let second = simp (c.swap_word.ensures, c.of.ensures) at c.put_swap_word.ensures in
     completes c.put_swap_word.new.storage c.put_swap_word.new.keys _ here.runs c.completed.ensures
     (second ∙ ap (λ m. perform m (store a.page.place 4 swap)) first)

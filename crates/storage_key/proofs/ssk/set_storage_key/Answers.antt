@@ -1,7 +1,7 @@
-use Rattle.std.proofs.Common.{ℕ, length}
+use Rattle.std.proofs.Common.{refl, ℕ, length}
 use Rattle.rules.specs.declared.tables.FoundPage.{FoundPage}
 use Rattle.rules.specs.SetStorageKey.{store_swap_word, set_storage_key}
-use Rattle.rules.proofs.Present.StorageKeys.{find_page-gives}
+use Rattle.storage_key.proofs.Way.{swap_there}
 use Rattle.storage.specs.Answers.{machine}
 use Rattle.storage.proofs.Laws.{begin, fresh, completes, finishes}
 use Rattle.storage.proofs.Stages.{Asked, asks, asks_after, given, sure, ended_with}
@@ -43,7 +43,7 @@ pub set_block_key-requires : goal.set_block_key-requires
 unfolding set_storage_key rseg found
 set_block_key-requires c =
     let asked = found (goal.at.set_block_key-requires c).After-after in
-    sure _ asked c.in_ok-found.was (find_page-gives (length asked.left.storage) (length asked.left.keys) _ _ _)
+    swap_there asked c.in_ok-found.was _ _ _ refl
 
 pub returns-in-Some : goal.returns-in-Some
 unfolding set_storage_key rseg found
@@ -57,11 +57,11 @@ pub put_swap_word-requires : goal.put_swap_word-requires
 unfolding set_storage_key rseg found
 put_swap_word-requires c =
     let asked = found (goal.at.put_swap_word-requires c).After-after in
-    sure _ asked c.in_ok-found.was (find_page-gives (length asked.left.storage) (length asked.left.keys) _ _ _)
+    swap_there asked c.in_ok-found.was _ _ _ refl
 
 pub returns-in-None : goal.returns-in-None
 unfolding set_storage_key store_swap_word rseg found
 returns-in-None c =
     let here = given (found (goal.at.returns-in-None c).After-after) c.in_ok-found.was in
     completes c.put_swap_word.new.storage c.put_swap_word.new.keys _ (simp c.in-None.is at here.runs)
-    c.completed.ensures (simp c.swap_word.ensures at c.put_swap_word.ensures)
+    c.completed.ensures (simp (c.swap_word.ensures, c.none.ensures) at c.put_swap_word.ensures)

@@ -1,0 +1,2 @@
+-- The way to a page.
+pub mod Way

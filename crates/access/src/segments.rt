@@ -11,7 +11,8 @@ use crate::walks::{Walked, fault, walked};
 use rules::{Format, TableFault};
 use storage::{After, Counted};
 
-// Step 2, by the bytes of a segment, as the definition has it: for 64K segments the table's length must reach address bits 8-11.
+// Step 2, by the bytes of a segment, as the definition has it: for 64K segments the table's length must reach address
+// bits 8-11.
 #[inline(always)]
 fn is_beyond_segments(format: Format, table: u32, at: u32) -> bool
     ensures { result ≡ beyond_segments format table at }

@@ -1,6 +1,6 @@
 // What SSK and RRB write: the key of a page's block, and its swap word. Both were read before, and what read them
-// answered only because they are there. So each function here requires that, and tests nothing (document 02, R-10). It is
-// a fact of the lent storage too, so no type of a page could hold it.
+// answered only because they are there. So each function here requires that, and tests nothing (document 02, R-10). It
+// is a fact of the lent storage too, so no type of a page could hold it.
 ghost use Rattle.std.specs.Prelude.{◌≡◌, ℕ, ◌<◌, true, List, [], ◌∷◌, length};
 ghost use Rattle.rules.specs.Machine.{has, stored};
 ghost use Rattle.rules.specs.Writes.{perform, store, set_key};

@@ -26,4 +26,5 @@ pub returns : goal.returns
 unfolding insert_block_key key
 returns c =
     let here = given (key (goal.at.returns c).After-consult_key) c.in_ok-key.was in
-    finishes c.args.storage.now c.insert_key.new.keys here.runs c.after.ensures (simp c.of.ensures at c.insert_key.ensures)
+    finishes c.args.storage.now c.insert_key.new.keys here.runs c.after.ensures
+    (simp c.of.ensures at c.insert_key.ensures)

@@ -53,12 +53,8 @@ pub fn set_storage_key(storage: &mut [u8], keys: &mut [u8], call: Call) -> Step<
         Some(block) => set_block_key(storage, keys, call, page, block).after(found.count),
         None => {
             // 12
-            put_swap_word(
-                storage,
-                keys,
-                page.place,
-                swap_word(call, page, Marks::none()),
-            );
+            let swap = swap_word(call, page, Marks::none());
+            put_swap_word(storage, keys, page.place, swap);
             storage::completed(found.count, 1)
         }
     }

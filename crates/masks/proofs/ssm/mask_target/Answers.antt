@@ -53,7 +53,7 @@ pub returns-then-ec-mask_needs_expanded : goal.returns-then-ec-mask_needs_expand
 unfolding mask_target vpsw first extended
 returns-then-ec-mask_needs_expanded c =
     let test = extended (goal.at.returns-then-ec-mask_needs_expanded c).After-mask_needs_expanded in
-    simp c.expanded.ensures (stopped test c.if-ec-mask_needs_expanded.true)
+    rw (c.stop.ensures, c.expanded.ensures) (stopped test c.if-ec-mask_needs_expanded.true)
 
 -- and in the BC mode
 abbrev basic : (c : After-any_rises_pending)

@@ -99,7 +99,7 @@ pub returns-then-needs_expanded : goal.returns-then-needs_expanded
 unfolding store_then assisted vpsw first expands
 returns-then-needs_expanded c =
     let test = expands (goal.at.returns-then-needs_expanded c).After-needs_expanded in
-    rw c.expanded.ensures (stopped_with test c.if-needs_expanded.true)
+    rw (c.stop.ensures, c.expanded.ensures) (stopped_with test c.if-needs_expanded.true)
 
 -- steps 5 and 6: the operand
 abbrev operand : (c : After-after-2)

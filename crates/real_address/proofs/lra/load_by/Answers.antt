@@ -29,4 +29,4 @@ returns-in-Ended c =
     let s = c.args.storage.now in
     let ks = c.virtual_walk.new.keys in
     let came = ap (λ x. over_walk x c.in-Err.end.count (machine s ks)) (sym c.in-Ended.is) ∙ c.in-Err.ensures in
-    over_finished s ks (ends _ _ (begin _ _) (fresh _ _ came))
+    rw c.stop.ensures (over_finished s ks (ends _ _ (begin _ _) (fresh _ _ came)))

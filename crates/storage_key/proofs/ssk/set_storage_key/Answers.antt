@@ -64,4 +64,4 @@ unfolding set_storage_key store_swap_word rseg found
 returns-in-None c =
     let here = given (found (goal.at.returns-in-None c).After-after) c.in_ok-found.was in
     completes c.put_swap_word.new.storage c.put_swap_word.new.keys _ (simp c.in-None.is at here.runs)
-    c.completed.ensures (simp (c.swap_word.ensures, c.none.ensures) at c.put_swap_word.ensures)
+    c.completed.ensures (simp (c.swap_word-swap.ensures, c.none.ensures) at c.put_swap_word.ensures)

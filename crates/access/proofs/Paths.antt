@@ -1,5 +1,6 @@
 -- Walks beside the reading program: what `Stages` of the storage crate has for a step, here for a walk.
-use Rattle.std.proofs.Common.{◌≡◌, ℕ, ◌+◌, ◌%◌, ◌^◌, List, Option, Some, None, Result, Ok, Err, IsErrAnd, is_ok, true≢false, sym, refl, ap, ◌∙◌, arith}
+use Rattle.std.proofs.Common.{◌≡◌, ℕ, ◌+◌, ◌%◌, ◌^◌, true≢false, sym, refl, ap, ◌∙◌, arith}
+use Rattle.std.proofs.Common.{List, Option, Some, None, Ok, Err, IsErrAnd, is_ok}
 use Rattle.std.proofs.lemmas.Result.{err_from_is_err_and}
 use mathlib.Core.Path.{fun_ext}
 use Rattle.rules.specs.declared.endings.Ending.{Ending}

@@ -52,7 +52,8 @@ fn exception(at: u32, fault: TableFault) -> Ending
     })
 }
 
-// The walk's answer, its faults as endings.
+// The walk's answer, its faults as endings. `faults_refused` differs in what a fault gives; with that as a closure, a
+// clause would have to say what it gives, which is longer than the two arms.
 #[inline(always)]
 fn excepted(walked: Walked, at: u32) -> Step<u32>
     ensures { result ≡ ended_by (exception at) walked }

@@ -1,5 +1,5 @@
 -- The words that are stored, each at the real address found for it.
-use Rattle.std.proofs.Common.{◌≡◌, ℕ, suc, List, [], ◌∷◌, ◌⊎◌, inl, inr, length, refl, sym, ap, ◌∙◌, arith}
+use Rattle.std.proofs.Common.{◌≡◌, ℕ, suc, List, [], ◌∷◌, ◌⊎◌, inl, inr, length, refl, ap, arith}
 use Rattle.rules.specs.Machine.{Machine}
 use Rattle.rules.specs.Writes.{store, perform, perform_all}
 use Rattle.rules.specs.StoreControl.{word_stores}

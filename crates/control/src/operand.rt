@@ -41,7 +41,8 @@ pub(crate) fn word_operand(storage: &[u8], keys: &mut [u8], guest: Guest) -> Ste
     })
 }
 
-// Step 5: how many registers R1 and R3 name; the register after 15 is register 0.
+// Step 5: how many registers R1 and R3 name; the register after 15 is register 0. That there are at most 16 is said
+// where they are gathered too: a type for it would be made and taken apart once.
 pub(crate) fn register_count(r1: u32, r3: u32) -> usize
     requires { (r1 < 16) × (r3 < 16) }
     ensures { (result ≡ register_count r1 r3) × (result ≤ 16) }

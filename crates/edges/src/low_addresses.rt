@@ -11,6 +11,7 @@ pub(crate) fn run_low_addresses(bench: &mut Bench<'_, impl Print>) -> io::Result
     run_translated(bench)
 }
 
+// A name for each, a line each: see `Edge::stnsm`.
 fn stnsm() -> Edge {
     Edge::stnsm(0x07, EC, 0xFC)
 }

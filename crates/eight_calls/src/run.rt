@@ -18,6 +18,7 @@ pub(crate) fn run_calls(
     machine: &mut Machine,
     recorder: &mut Recorder,
 ) -> io::Result<Entry> {
+    // the first by itself, so that there is a last in any case
     let calls = calls();
     let mut last = run(rt, machine, recorder, 1, calls[0])?;
     for (i, call) in calls.iter().enumerate().skip(1) {

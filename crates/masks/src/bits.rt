@@ -7,6 +7,7 @@ ghost use Rattle.storage.specs.Answers.{machine};
 
 use storage::Access;
 
+// By division, as the definition takes it.
 pub(crate) fn mask_in(first: u32) -> u32
     ensures { (result ≡ mask_in first) × (result < 256) }
 {
@@ -22,7 +23,7 @@ pub(crate) fn is_extended(first: u32) -> bool
 
 // Is this bit of a mask one? Bit 0 is leftmost. A place is a number, and no type of its own, since `any` goes over the
 // numbers of all places.
-#[tactic(auto, using(crate::proofs::Shifts::bit_shifted))]
+#[tactic(auto, using(rules::proofs::Bits::bit_shifted))]
 pub(crate) fn bit(mask: u32, place: u32) -> bool
     requires { place < 8 }
     ensures { result ≡ bit 8 place mask }

@@ -3,6 +3,7 @@ ghost use Rattle.std.specs.Prelude.{◌≡◌, true};
 ghost use Rattle.operations.specs.Operations.{entry_of, by_rule};
 
 // The entry of each byte: the instruction's length, and 0x80 more where the byte begins an assisted instruction.
+// It is one byte, and no pair, since the definitions and the rule over the table (`entry_of`, `by_rule`) have it so.
 const ENTRIES: [u8; 256] = [
     0x02, // 00
     0x02, // 01

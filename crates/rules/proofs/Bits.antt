@@ -1,4 +1,4 @@
--- Bits of numbers, by shifts.
+-- A bit of a number, by a shift.
 use Rattle.std.proofs.Common.{◌≡◌, ℕ, zero, suc, ◌+◌, ◌-◌, ◌/◌, ◌%◌, ◌^◌, nat_eq, refl, ap, ◌∙◌, arith}
 use Rattle.rules.specs.Bits.{without, bit}
 
@@ -6,10 +6,11 @@ shifted : (n x : ℕ) → x / 2 ^ n ≡ without n x
 shifted zero x = omega arith
 shifted (suc n) x = refl
 
-pub bit_shifted : (place x : ℕ) → nat_eq (x / 2 ^ (63 - place) % 2) 1 ≡ bit 64 place x
-bit_shifted place x =
-    let n = 64 - (place + 1) in
-    let left : 63 - place ≡ n = omega arith in
+pub bit_shifted : (width left place x : ℕ) → left + (place + 1) ≡ width
+    → nat_eq (x / 2 ^ left % 2) 1 ≡ bit width place x
+bit_shifted width left place x so =
+    let n = width - (place + 1) in
+    let same : left ≡ n = omega arith in
     let one : 1 ≡ place + 1 - place = omega arith in
     ap (λ y. nat_eq y 1)
-    (ap (λ m. x / 2 ^ m % 2) left ∙ ap (λ y. y % 2) (shifted n x) ∙ ap (λ k. without n x % 2 ^ k) one)
+    (ap (λ m. x / 2 ^ m % 2) same ∙ ap (λ y. y % 2) (shifted n x) ∙ ap (λ k. without n x % 2 ^ k) one)

@@ -22,7 +22,8 @@ impl Guest {
         (self.psw % 16777216) as u32
     }
 
-    // Is this bit of the PSW one? Bit 0 is leftmost.
+    // Is this bit of the PSW one? Bit 0 is leftmost. A mask of 8 bits has a function of its own (masks/src/bits.rt): one
+    // for both crates would be public, so open to places past the width, and longer than the two.
     #[tactic(auto, using(crate::proofs::Bits::bit_shifted))]
     fn psw_bit(self, place: u32) -> bool
         requires { place < 64 }

@@ -1,26 +1,5 @@
 -- A run, step by step: what the code's answers, and the machine that each call leaves, say of a reading program.
-use Rattle.std.proofs.Common.{
-  ◌≡◌,
-  ℕ,
-  ◌+◌,
-  ◌%◌,
-  ◌^◌,
-  ◌<◌,
-  Bool,
-  true,
-  false,
-  List,
-  length,
-  Result,
-  Ok,
-  Err,
-  sym,
-  refl,
-  ap,
-  ◌∙◌,
-  subst,
-  arith,
-}
+use Rattle.std.proofs.Common.{◌≡◌, ℕ, ◌+◌, ◌%◌, ◌^◌, ◌<◌, Bool, true, false, List, length, Ok, Err, sym, refl, ap, ◌∙◌, subst, arith}
 use Rattle.rules.specs.declared.endings.Ending.{Ending}
 use Rattle.rules.specs.declared.record_change.RecordChange.{RecordChange}
 use Rattle.rules.specs.declared.record_change.RecordChange.TheVariants.{Unchanged}
@@ -34,23 +13,7 @@ use Rattle.rules.specs.Run.{Outcome, ended, gave, run, View, view}
 use Rattle.rules.proofs.Recording.{noted_all-length}
 use Rattle.rules.proofs.Bind.{following, view_bind, ended_as, run_ending_as}
 use Rattle.rules.proofs.Gives.{Gives, IfGave, run_gives}
-use Rattle.storage.specs.Answers.{
-  machine,
-  went,
-  over,
-  Counted,
-  Step,
-  counted,
-  told,
-  seen,
-  later,
-  refused,
-  Finished,
-  finished,
-  finish,
-  completion_as,
-  completion,
-}
+use Rattle.storage.specs.Answers.{machine, went, over, Step, counted, told, seen, later, refused, Finished, finished, finish, completion_as, completion}
 
 -- after n references more
 abbrev pub more : {A : Type 0} → ℕ → View A → View A

@@ -8,14 +8,14 @@
 -- `(goal.at.NAME c).After-f-x`. A proof goes along the code: what it has asked at a call (`Asked`), which hands on an
 -- ending at the `?` below the call (`handed`, `ended_with`) or gives a value (`given`), and what it has tested
 -- (`Tested`), which stops or passes.
-use Rattle.std.proofs.Common.{◌≡◌, ℕ, Bool, true, false, List, length, Result, Ok, Err, IsErrAnd, sym, ap, ◌∙◌, subst}
+use Rattle.std.proofs.Common.{◌≡◌, ℕ, Bool, true, false, List, length, Ok, Err, IsErrAnd, sym, ap, ◌∙◌}
 use Rattle.std.proofs.lemmas.Result.{err_from_is_err_and}
 use Rattle.rules.specs.declared.endings.Ending.{Ending}
 use Rattle.rules.specs.declared.record_change.RecordChange.{RecordChange}
 use Rattle.rules.specs.Machine.{Machine}
 use Rattle.rules.specs.Steps.{Steps, ◌>>=◌, stop_if}
 use Rattle.rules.specs.Call.{Completion}
-use Rattle.storage.specs.Answers.{machine, went, over, Counted, Step, told, seen, later, finished, finish}
+use Rattle.storage.specs.Answers.{machine, over, Counted, Step, told, seen, later, finished, finish}
 use Rattle.rules.proofs.Gives.{Gives}
 use Rattle.storage.proofs.Laws.{more, Runs, waited, gave_only, goes, ends, pass, stops, runs_keys, over_finished}
 

@@ -48,7 +48,7 @@ impl Item for u32 {
     }
 }
 
-// A word in one block: its last byte says whether it is there, and one key records it, where the next takes four tests.
+// A word in one block: one key records it, where a word across blocks marks the key of each of its bytes.
 #[inline(always)]
 fn word_within(storage: &[u8], keys: &mut [u8], at: u32) -> Option<u32>
     requires { across at ≡ false }

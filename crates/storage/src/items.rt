@@ -36,15 +36,8 @@ pub(crate) fn word_by_last_byte(storage: &[u8], at: u32) -> Option<u32>
     ensures { result ≡ item_at storage.now at 4 }
 {
     let i = at as usize;
-    if i + 3 < storage.len() {
-        return Some(u32::from_be_bytes([
-            storage[i],
-            storage[i + 1],
-            storage[i + 2],
-            storage[i + 3],
-        ]));
-    }
-    None
+    let bytes = storage.get(i..i + 4)?.first_chunk()?;
+    Some(u32::from_be_bytes(*bytes))
 }
 
 // From 2^24 - 3 on a word goes round the top of storage; an address of more than 24 bits is left as it is.

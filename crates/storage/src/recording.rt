@@ -25,7 +25,7 @@ impl Access {
     }
 }
 
-// The key of a byte's block.
+// The key of a byte's block. By index: of a slice after `get_mut` a proof knows the length, and not what it holds.
 #[inline(always)]
 pub fn record_byte(keys: &mut [u8], access: Access, at: u32)
     ensures { keys.new

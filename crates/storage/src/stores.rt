@@ -10,6 +10,7 @@ ghost use Rattle.storage.specs.Items.{word_bytes};
 
 use crate::recording::{Access, is_across, record_byte, record_word};
 
+// By index, as in `record_byte`.
 fn put_byte(storage: &mut [u8], at: u32, value: u32)
     ensures { storage.new ≡ slice_set storage.old at (value % 256) }
 {
@@ -27,6 +28,7 @@ fn put_word(part: &mut [u8], value: u32)
     part.copy_from_slice(&value.to_be_bytes());
 }
 
+// A byte and a word are stored in two ways, the word in one piece where it can be: so they are two functions.
 pub fn store_byte(storage: &mut [u8], keys: &mut [u8], at: u32, value: u32)
     ensures { machine storage.new keys.new
         ≡ perform (machine storage.old keys.old) (store at 1 value) }
@@ -57,7 +59,8 @@ fn store_across(storage: &mut [u8], keys: &mut [u8], at: u32, value: u32)
     record_word(keys, Access::Store, at);
 }
 
-// A word: the four-byte part of storage that starts at its address is lent for it, where it is in one block.
+// A word: the four-byte part of storage that starts at its address is lent for it, where it is in one block. By range,
+// as in `record_byte` by index.
 pub fn store_word(storage: &mut [u8], keys: &mut [u8], at: u32, value: u32)
     ensures { machine storage.new keys.new
         ≡ perform (machine storage.old keys.old) (store at 4 value) }

@@ -7,7 +7,8 @@ use access::Real;
 use rules::{Ending, FieldNumbers, Format, Guest, PageSize};
 use storage::{Counted, Step};
 
-// What ending 3 carries; by functions, since a constant has no clause. SSK: the step.
+// What ending 3 carries; by functions, since a constant has no clause. The numbers, the format and the address go one
+// by one, as in the definitions. SSK: the step.
 pub(crate) fn steps() -> FieldNumbers
     ensures { result ≡ steps }
 {

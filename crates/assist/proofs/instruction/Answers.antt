@@ -1,10 +1,11 @@
-use Rattle.std.proofs.Common.{◌≡◌, ℕ, Bool, true, false, true≢false, cond, ◌==◌, Option, Some, None, is_some, unwrap_or, refl, sym, ap, ◌∙◌, subst, eq-eqb, ne_eqb}
+use Rattle.std.proofs.Common.{◌≡◌, ℕ, Bool, true, false, true≢false, cond, refl, sym, ap, ◌∙◌, subst}
+use Rattle.std.proofs.Common.{Option, Some, None, is_some, unwrap_or, eq-eqb, ne_eqb}
 use Rattle.rules.specs.declared.call.Call.{Call}
 use Rattle.rules.specs.declared.mask_change.MaskChange.{MaskChange}
 use Rattle.rules.specs.declared.mask_change.MaskChange.TheVariants.{And, Or}
 use Rattle.rules.specs.Machine.{Machine}
 use Rattle.rules.specs.Steps.{Steps, branch}
-use Rattle.rules.specs.Call.{operation, Completion}
+use Rattle.rules.specs.Call.{Completion}
 use Rattle.rules.specs.StoreThenMask.{store_then}
 use Rattle.rules.specs.Attempt.{instruction}
 use Rattle.storage.specs.Answers.{machine}

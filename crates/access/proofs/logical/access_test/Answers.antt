@@ -1,6 +1,4 @@
 use Rattle.std.proofs.Common.{ℕ, ap, ◌∙◌}
-use Rattle.rules.specs.Machine.{Machine}
-use Rattle.rules.specs.Steps.{Steps}
 use Rattle.rules.specs.Access.{key_test, access}
 use Rattle.storage.specs.Answers.{machine, seen}
 use Rattle.storage.proofs.Laws.{begin, fresh, last_after}

@@ -1,4 +1,4 @@
-use Rattle.std.proofs.Common.{List, ℕ, not, ap, sym, ◌∙◌}
+use Rattle.std.proofs.Common.{List, ℕ, not, ap}
 use Rattle.rules.specs.Access.{key_test}
 use Rattle.storage.specs.Answers.{machine}
 use Rattle.storage.proofs.Laws.{begin, fresh, settles}

@@ -1,5 +1,5 @@
 use Rattle.std.proofs.Common.{sym, ◌∙◌}
-use Rattle.rules.specs.Steps.{Steps, ◌>>=◌, stop_if}
+use Rattle.rules.specs.Steps.{◌>>=◌, stop_if}
 use Rattle.rules.specs.Access.{store_test}
 use Rattle.storage.specs.Answers.{seen}
 use Rattle.access.proofs.logical.store_test.Goals as goal

@@ -1,4 +1,4 @@
-use Rattle.std.proofs.Common.{◌≡◌, ℕ, false, sym, ap, ◌∙◌}
+use Rattle.std.proofs.Common.{ℕ, sym, ap, ◌∙◌}
 use Rattle.rules.specs.Steps.{◌>>=◌}
 use Rattle.rules.specs.Translation.{page_verdict, page_walk}
 use Rattle.storage.specs.Answers.{machine, told, seen}

@@ -1,4 +1,4 @@
-use Rattle.rules.specs.Translation.{table_walk, page_walk}
+use Rattle.rules.specs.Translation.{table_walk}
 use Rattle.access.proofs.Paths.{went_on, stopped_short, walk_after}
 use Rattle.access.proofs.segments.table_walk.Goals as goal
 

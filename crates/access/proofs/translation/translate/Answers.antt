@@ -1,4 +1,3 @@
-use Rattle.std.proofs.Common.{sym, ◌∙◌}
 use Rattle.rules.specs.declared.endings.Ending.TheVariants.{Interruption}
 use Rattle.rules.specs.declared.endings.Exception.TheVariants.{TranslationSpecification}
 use Rattle.rules.specs.Translation.{translate, exception}

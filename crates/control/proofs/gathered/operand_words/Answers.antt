@@ -1,4 +1,4 @@
-use Rattle.std.proofs.Common.{◌≡◌, ℕ, refl, arith}
+use Rattle.std.proofs.Common.{ℕ, refl, arith}
 use Rattle.rules.specs.StoreControl.{operand_words}
 use Rattle.storage.specs.Answers.{machine}
 use Rattle.storage.proofs.Stages.{Asked, given}

@@ -1,6 +1,6 @@
 use Rattle.std.proofs.Common.{ℕ, not, sym, ap, ◌∙◌}
 use Rattle.rules.specs.StoreControl.{control_block}
-use Rattle.storage.specs.Answers.{machine, went, over}
+use Rattle.storage.specs.Answers.{machine}
 use Rattle.storage.proofs.Laws.{begin, fresh, pass, stops, settles}
 use Rattle.storage.proofs.Stages.{Asked, asks, given, handed}
 use Rattle.control.proofs.operand.control_block.Goals as goal

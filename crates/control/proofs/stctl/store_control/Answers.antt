@@ -1,11 +1,10 @@
 use Rattle.std.proofs.Common.{◌≡◌, ◌≤◌, rules, length-take, ℕ, List, length, take, sym, ap, ◌∙◌, arith}
-use Rattle.rules.specs.Machine.{Machine}
 use Rattle.rules.specs.declared.call.Call.{Call}
 use Rattle.rules.specs.Call.{r1, r3}
 use Rattle.rules.specs.StoreControl.{register_count, word_stores, store_control}
-use Rattle.storage.specs.Answers.{machine, told, seen, completion}
+use Rattle.storage.specs.Answers.{machine, completion}
 use Rattle.storage.proofs.Laws.{begin, fresh, completes}
-use Rattle.storage.proofs.Stages.{Reached, Asked, asks, asks_after, given, ended_with}
+use Rattle.storage.proofs.Stages.{Asked, asks, asks_after, given, ended_with}
 use Rattle.control.specs.Gathered.{first_words}
 use Rattle.control.proofs.Turns.{first_later}
 use Rattle.control.proofs.Words.{stores_length}

@@ -1,4 +1,3 @@
-use Rattle.std.proofs.Common.{Some, sym, ap, ◌∙◌, arith}
 use Rattle.storage.proofs.Fetched.{fetches, misses}
 use Rattle.storage.proofs.fetches.word_across.Goals as goal
 

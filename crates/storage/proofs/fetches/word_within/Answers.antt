@@ -1,15 +1,7 @@
-use Rattle.std.proofs.Common.{Some, sym, ap, ◌∙◌, arith}
 use Rattle.storage.specs.Recording.{Fetch}
 use Rattle.storage.proofs.Fetched.{fetches, misses}
-use Rattle.storage.proofs.Recorded.{within, one_block}
+use Rattle.storage.proofs.Recorded.{one_block}
 use Rattle.storage.proofs.fetches.word_within.Goals as goal
-
-pub word_by_last_byte-requires : goal.word_by_last_byte-requires
-word_by_last_byte-requires c =
-    let inside = within c.args.at c.requires in
-    let below = inside.0 in
-    let ends = inside.1 in
-    omega arith
 
 pub returns-in_err-value : goal.returns-in_err-value
 returns-in_err-value c =

@@ -1,4 +1,4 @@
-use Rattle.std.proofs.Common.{◌≡◌, ℕ, Some, ap, ◌∙◌}
+use Rattle.std.proofs.Common.{Some, ap, ◌∙◌}
 use Rattle.storage.specs.Items.{item_at}
 use Rattle.storage.proofs.Joined.{halfword_joined, left_missing, right_missing, both_there}
 use Rattle.storage.proofs.items.halfword_at.Goals as goal

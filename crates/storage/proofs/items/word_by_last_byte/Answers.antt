@@ -1,16 +1,21 @@
-use Rattle.std.proofs.Common.{ap, Some, sym, ◌∙◌, arith}
+use Rattle.std.proofs.Common.{Some, ap, sym, ◌∙◌, arith}
 use Rattle.storage.proofs.Words.{word_there, word_missing}
 use Rattle.storage.proofs.items.word_by_last_byte.Goals as goal
 
-pub returns-then-i-storage : goal.returns-then-i-storage
-returns-then-i-storage c =
-    let below_top = c.requires in
-    let tested = c.if-i-storage.true in
-    ap Some c.from_be_bytes.ensures
-    ∙ sym (word_there c.args.storage.now c.args.at (omega arith) (omega arith))
+pub returns-in_err-get : goal.returns-in_err-get
+returns-in_err-get c =
+    let short = c.in_err-get.ensures.lookup in
+    c.from_residual.ensures ∙ sym (word_missing c.args.storage.now c.args.at c.requires (omega (arith, short)))
+
+pub returns-in_err-bytes : goal.returns-in_err-bytes
+returns-in_err-bytes c =
+    let part = c.in_ok-get.ensures.lookup.0 in
+    let short = c.in_err-bytes.ensures.cases in
+    absurd (omega (arith, short, part.3))
 
 pub returns : goal.returns
 returns c =
-    let below_top = c.requires in
-    let tested = c.if-i-storage.false in
-    sym (word_missing c.args.storage.now c.args.at (omega arith) (omega arith))
+    let part = c.in_ok-get.ensures.lookup.0 in
+    let first = c.in_ok-bytes.ensures.cases in
+    ap Some c.from_be_bytes.ensures
+    ∙ word_there c.args.storage.now c.args.at c.requires _ _ part.2 first.same part.1

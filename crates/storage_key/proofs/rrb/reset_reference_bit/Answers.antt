@@ -1,4 +1,4 @@
-use Rattle.std.proofs.Common.{refl, ℕ, length}
+use Rattle.std.proofs.Common.{refl, ℕ}
 use lib.Bits.{bit_or}
 use Rattle.rules.specs.Bits.{bits}
 use Rattle.rules.specs.declared.record_change.RecordChange.TheVariants.{ConditionCode}
@@ -8,7 +8,7 @@ use Rattle.rules.specs.ResetReferenceBit.{store_reset, reset_reference_bit}
 use Rattle.storage_key.proofs.Way.{swap_there}
 use Rattle.storage.specs.Answers.{machine}
 use Rattle.storage.proofs.Laws.{begin, fresh, completes_as, finishes}
-use Rattle.storage.proofs.Stages.{Asked, asks, asks_after, given, sure, ended_with}
+use Rattle.storage.proofs.Stages.{Asked, asks, asks_after, given, ended_with}
 use Rattle.storage_key.proofs.rrb.reset_reference_bit.Goals as goal
 use Rattle.storage_key.proofs.rrb.reset_reference_bit.Goals.{After-segment_table, After-after, After-after-2}
 

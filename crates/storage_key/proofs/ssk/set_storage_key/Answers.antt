@@ -1,10 +1,10 @@
-use Rattle.std.proofs.Common.{refl, ℕ, length}
+use Rattle.std.proofs.Common.{refl, ℕ}
 use Rattle.rules.specs.declared.tables.FoundPage.{FoundPage}
 use Rattle.rules.specs.SetStorageKey.{store_swap_word, set_storage_key}
 use Rattle.storage_key.proofs.Way.{swap_there}
 use Rattle.storage.specs.Answers.{machine}
 use Rattle.storage.proofs.Laws.{begin, fresh, completes, finishes}
-use Rattle.storage.proofs.Stages.{Asked, asks, asks_after, given, sure, ended_with}
+use Rattle.storage.proofs.Stages.{Asked, asks, asks_after, given, ended_with}
 use Rattle.storage_key.proofs.ssk.set_storage_key.Goals as goal
 use Rattle.storage_key.proofs.ssk.set_storage_key.Goals.{After-segment_table, After-after}
 

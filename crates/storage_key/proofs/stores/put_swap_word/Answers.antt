@@ -14,11 +14,6 @@ in_place c =
     c.put_bytes-2.ensures
     ∙ ap (λ at. stored c.args.storage.now at c.args.value) (sym (straight c.args.at (omega arith)))
 
--- across a block boundary, and in one block
-pub returns-then-is_across : goal.returns-then-is_across
-returns-then-is_across c =
-    simp (in_place (goal.at.returns-then-is_across c).After-put_bytes-2, c.record_word-then-is_across.ensures)
-
 pub returns : goal.returns
 returns c =
     simp (

@@ -1,4 +1,4 @@
-use Rattle.std.proofs.Common.{Some, sym, ap, ◌∙◌, arith}
+use Rattle.std.proofs.Common.{Some, ap, ◌∙◌}
 use Rattle.storage.proofs.Fetched.{fetches, misses}
 use Rattle.storage.proofs.fetches.U16Item.read.Goals as goal
 

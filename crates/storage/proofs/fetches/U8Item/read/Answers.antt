@@ -1,4 +1,4 @@
-use Rattle.std.proofs.Common.{Some, sym, ap, ◌∙◌, arith}
+use Rattle.std.proofs.Common.{Some, ap, ◌∙◌}
 use Rattle.storage.specs.Recording.{Fetch, marking}
 use Rattle.storage.proofs.Fetched.{fetches, misses}
 use Rattle.storage.proofs.Recorded.{byte_marked}

@@ -1,4 +1,0 @@
-use Rattle.access.proofs.pages.is_malformed.Goals as goal
-
-pub returns : goal.returns
-returns c = simp c.page_bytes.ensures.0

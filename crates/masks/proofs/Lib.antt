@@ -1,2 +1,0 @@
--- Bits of a mask, by shifts.
-pub mod Shifts

@@ -1,5 +1,6 @@
 -- A run, step by step: what the code's answers, and the machine that each call leaves, say of a reading program.
-use Rattle.std.proofs.Common.{◌≡◌, ℕ, ◌+◌, ◌%◌, ◌^◌, ◌<◌, Bool, true, false, List, length, Ok, Err, sym, refl, ap, ◌∙◌, subst, arith}
+use Rattle.std.proofs.Common.{◌≡◌, ℕ, ◌+◌, ◌%◌, ◌^◌, ◌<◌, Bool, true, false, List, length, Ok, Err}
+use Rattle.std.proofs.Common.{sym, refl, ap, ◌∙◌, subst, arith}
 use Rattle.rules.specs.declared.endings.Ending.{Ending}
 use Rattle.rules.specs.declared.record_change.RecordChange.{RecordChange}
 use Rattle.rules.specs.declared.record_change.RecordChange.TheVariants.{Unchanged}

@@ -74,23 +74,32 @@ module _ (s : List ℕ) (a : ℕ) (k : a ≤ 2 ^ 24 - 4) where
   unfolding item_at
   by_last_byte t = ap (λ b. cond b (Some (value s a 4)) None) (sym (last_byte_decides (length s) a k) ∙ t)
 
-  pub word_there : (part bytes : List ℕ) → part ≡ slice_range s a (a + 4) → bytes ≡ take 4 part → a + 4 ≤ length s
+  pub word_there : a + 3 < length s
+      → item_at s a 4
+      ≡ Some (get_or s a 0 * 16777216 + get_or s (a + 1) 0 * 65536 + get_or s (a + 2) 0 * 256 + get_or s (a + 3) 0)
+  word_there h =
+      by_last_byte (lt-ltb (a + 3) (length s) h)
+      ∙ ap (λ at. Some (value_at s at 0)) (straight a k)
+      ∙ ap Some (omega arith)
+
+  -- it is in the four bytes from its address on
+  pub word_read : (part bytes : List ℕ) → part ≡ slice_range s a (a + 4) → bytes ≡ take 4 part → a + 4 ≤ length s
       → Some (get_or bytes 0 0 * 16777216 + get_or bytes 1 0 * 65536 + get_or bytes 2 0 * 256 + get_or bytes 3 0)
       ≡ item_at s a 4
-  word_there part bytes from so h =
+  word_read part bytes from so h =
       let four : a + 4 - a ≡ 4 = omega arith in
       let same : (i : ℕ) → i < 4 → get_or bytes i 0 ≡ get_or s (a + i) 0 =
-      λ i lt. ap (λ l. get_or l i 0) so ∙ get_or-take 4 part i 0 lt
-      ∙ ap (λ l. get_or l i 0) from
-      ∙ get_or-take _ (drop a s) i 0 (rw four lt) ∙ get_or-drop a s i 0 in
+        λ i lt. ap (λ l. get_or l i 0) so
+        ∙ get_or-take 4 part i 0 lt
+        ∙ ap (λ l. get_or l i 0) from
+        ∙ get_or-take _ (drop a s) i 0 (rw four lt)
+        ∙ get_or-drop a s i 0 in
       let here : a + 0 ≡ a = omega arith in
       let first = same 0 (omega arith) ∙ ap (λ i. get_or s i 0) here in
       let second = same 1 (omega arith) in
       let third = same 2 (omega arith) in
       let fourth = same 3 (omega arith) in
-      sym (by_last_byte (lt-ltb (a + 3) (length s) (omega (arith, h)))
-      ∙ ap (λ at. Some (value_at s at 0)) (straight a k)
-      ∙ ap Some (omega arith))
+      ap Some (omega arith) ∙ sym (word_there (omega (arith, h)))
 
   pub word_missing : length s ≤ a + 3 → item_at s a 4 ≡ None
   word_missing h = by_last_byte (le-ltb (a + 3) (length s) h)

@@ -1,4 +1,5 @@
--- What the sizes of pages and segments bound, once over the four formats.
+-- What the sizes of pages and segments bound, once over the four formats. The check finds these bounds alone where the
+-- code needs them; they are stated for a reader (docs/DECISIONS.md).
 use Rattle.std.proofs.Common.{◌≡◌, ℕ, ◌+◌, ◌*◌, ◌/◌, ◌%◌, ◌^◌, ◌<◌, ◌≤◌, ◌⊎◌, inl, inr, arith}
 
 abbrev Segment : ℕ → Type 0

@@ -1,14 +1,6 @@
 -- The words that are stored, each at the real address found for it.
 use Rattle.std.proofs.Common.{◌≡◌, ℕ, suc, List, [], ◌∷◌, ◌⊎◌, inl, inr, length, refl, ap, arith}
-use Rattle.rules.specs.Machine.{Machine}
-use Rattle.rules.specs.Writes.{store, perform, perform_all}
 use Rattle.rules.specs.StoreControl.{word_stores}
-
--- one store is made, and the others are left
-pub word_turn : (m l : Machine) (real value : ℕ) {reals values reals' values' : List ℕ} → reals ≡ real ∷ reals'
-    → values ≡ value ∷ values' → perform_all m (word_stores reals values) ≡ l
-    → perform_all (perform m (store real 4 value)) (word_stores reals' values') ≡ l
-word_turn m l real value e f h = simp (e, f) at h
 
 -- none is left
 pub none_left : (reals values : List ℕ) → (length reals ≡ 0) ⊎ (length values ≡ 0) → word_stores reals values ≡ []

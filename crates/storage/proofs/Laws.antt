@@ -10,8 +10,7 @@ use Rattle.rules.specs.Writes.{Write, perform_all}
 use Rattle.rules.specs.Steps.{Steps, done, stop, branch, ◌>>=◌, stop_if, ending_as}
 use Rattle.rules.specs.Call.{Completion, complete_as, complete}
 use Rattle.rules.specs.Recording.{noted_all}
-use Rattle.rules.specs.Run.{Outcome, ended, gave, run, View, view}
-use Rattle.rules.proofs.Recording.{noted_all-length}
+use Rattle.rules.specs.Run.{Outcome, ended, gave, View, view}
 use Rattle.rules.proofs.Bind.{following, view_bind, ended_as, run_ending_as}
 use Rattle.rules.proofs.Gives.{Gives, IfGave, run_gives}
 use Rattle.storage.specs.Answers.{machine, went, over, Step, counted, told, seen, later, refused, Finished, finished, finish, completion_as, completion}
@@ -36,16 +35,6 @@ more_zero p m =
 
 pub begin : {A : Type 0} → (m : Machine) (t : Steps A) → Runs m t 0 m t
 begin m t = record { so = more_zero t m; small = omega arith }
-
--- reading takes no key away: there are as many as before
-seen_keys : {A : Type 0} (p : Steps A) (m : Machine) → length (seen p m).left.keys ≡ length m.keys
-unfolding seen
-seen_keys p m = noted_all-length m (run p m).references
-
-pub runs_keys : {A : Type 0} {m m' : Machine} {t u : Steps A} {n : ℕ} → Runs m t n m' u
-    → length m'.keys ≡ length m.keys
-runs_keys {m = m} {m' = m'} {t = t} {u = u} h =
-    sym (seen_keys u m') ∙ sym (ap (λ x. length x.left.keys) h.so) ∙ seen_keys t m
 
 -- ---- what a call's answer says
 

@@ -17,7 +17,7 @@ use Rattle.rules.specs.Steps.{Steps, ◌>>=◌, stop_if}
 use Rattle.rules.specs.Call.{Completion}
 use Rattle.storage.specs.Answers.{machine, over, Counted, Step, told, seen, later, finished, finish}
 use Rattle.rules.proofs.Gives.{Gives}
-use Rattle.storage.proofs.Laws.{more, Runs, waited, gave_only, goes, ends, pass, stops, runs_keys, over_finished}
+use Rattle.storage.proofs.Laws.{more, Runs, waited, gave_only, goes, ends, pass, stops, over_finished}
 
 -- The arguments that a stage began with are an S. They say the machine that it came to, and its reading program.
 module _ {S A : Type 0} (entry : S → Machine) (stage : S → Steps A) where
@@ -130,11 +130,6 @@ module _ {S A : Type 0} {entry : S → Machine} {stage : S → Steps A} where
   pub stopped : (t : Tested entry stage) → t.flag ≡ true
       → over t.ending t.count t.left ≡ seen (stage t.start) (entry t.start)
   stopped t f = stops t.test t.ending t.next t.runs (sym t.so ∙ f)
-
-  -- ---- the number of keys stays the same
-
-  pub reached_keys : (h : Reached entry stage) → length h.left.keys ≡ length (entry h.start).keys
-  reached_keys h = runs_keys h.runs
 
 -- ---- an instruction
 

@@ -89,11 +89,11 @@ module _ (s : List ℕ) (a : ℕ) (k : a ≤ 2 ^ 24 - 4) where
   word_read part bytes from so h =
       let four : a + 4 - a ≡ 4 = omega arith in
       let same : (i : ℕ) → i < 4 → get_or bytes i 0 ≡ get_or s (a + i) 0 =
-        λ i lt. ap (λ l. get_or l i 0) so
-        ∙ get_or-take 4 part i 0 lt
-        ∙ ap (λ l. get_or l i 0) from
-        ∙ get_or-take _ (drop a s) i 0 (rw four lt)
-        ∙ get_or-drop a s i 0 in
+      λ i lt. ap (λ l. get_or l i 0) so
+      ∙ get_or-take 4 part i 0 lt
+      ∙ ap (λ l. get_or l i 0) from
+      ∙ get_or-take _ (drop a s) i 0 (rw four lt)
+      ∙ get_or-drop a s i 0 in
       let here : a + 0 ≡ a = omega arith in
       let first = same 0 (omega arith) ∙ ap (λ i. get_or s i 0) here in
       let second = same 1 (omega arith) in

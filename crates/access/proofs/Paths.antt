@@ -15,6 +15,11 @@ use Rattle.storage.proofs.Laws.{more, Runs, begin, fresh, goes, ends, settles, h
 use Rattle.storage.proofs.Stages.{Asked, ended}
 use Rattle.access.specs.Walks.{WalkEnd, Walked, Ended, Fault, over_walk, told_walk, as_walk, ended_by, formatted}
 
+-- what is made of an entry, after any program that gives it
+pub entry_given : (s ks : List ℕ) (p : Steps ℕ) (m : Machine) (x : Counted ℕ) (k : ℕ → Steps Walk)
+    → told (Ok x) s ks ≡ seen p m → Runs m (p >>= k) x.count (machine s ks) (k x.value)
+entry_given s ks p m x k h = goes p k (begin m _) (fresh p m h)
+
 -- what the `?` hands on is what ended the walk's step
 pub walk_handed : (w out : Walked) (s ks : List ℕ) {x : Counted WalkEnd} → w ≡ Err x → IsErrAnd out (λ y. y ≡ x)
     → told_walk out s ks ≡ told_walk w s ks

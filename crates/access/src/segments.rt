@@ -8,16 +8,18 @@ ghost use Rattle.access.specs.Walks.{told_walk, Follows};
 use crate::entries::Entries;
 use crate::pages::{page_entry_at, page_walk};
 use crate::walks::{Walked, fault, walked};
-use rules::{Format, TableFault};
+use rules::{Format, SegmentSize, TableFault};
 use storage::{After, Counted};
 
-// Step 2, by the bytes of a segment, as the definition has it: for 64K segments the table's length must reach address
-// bits 8-11.
+// Step 2: for 64K segments the table's length must reach address bits 8-11.
 #[inline(always)]
 fn is_beyond_segments(format: Format, table: u32, at: u32) -> bool
     ensures { result ≡ beyond_segments format table at }
 {
-    (format.segment_bytes() == 65536) & (table / 16777216 % 256 < at / 1048576 % 16)
+    match format.segment {
+        SegmentSize::SixtyFourK => table / 16777216 % 256 < at / 1048576 % 16,
+        SegmentSize::OneM => false,
+    }
 }
 
 #[inline(always)]

@@ -18,26 +18,18 @@ fn format(page: PageSize, segment: SegmentSize) -> Option<Format>
     Some(Format { page, segment })
 }
 
-// Step 1: control register 0 bits 8-12. By `if`, since in the last arm of a `match` on numbers a proof does not have
-// that the others were passed over.
+// Step 1: control register 0 bits 8-12.
 #[inline(always)]
 pub fn format_of(cr0: u32) -> Option<Format>
     ensures { (unknown : Ending) (m : Machine) → formatted unknown result m ≡ seen (format_of unknown cr0) m }
 {
-    let field = cr0 / 524288 % 32;
-    if field == 0b01000 {
-        return format(PageSize::TwoK, SegmentSize::SixtyFourK);
+    match cr0 / 524288 % 32 {
+        0b01000 => format(PageSize::TwoK, SegmentSize::SixtyFourK),
+        0b01010 => format(PageSize::TwoK, SegmentSize::OneM),
+        0b10000 => format(PageSize::FourK, SegmentSize::SixtyFourK),
+        0b10010 => format(PageSize::FourK, SegmentSize::OneM),
+        _ => None,
     }
-    if field == 0b01010 {
-        return format(PageSize::TwoK, SegmentSize::OneM);
-    }
-    if field == 0b10000 {
-        return format(PageSize::FourK, SegmentSize::SixtyFourK);
-    }
-    if field == 0b10010 {
-        return format(PageSize::FourK, SegmentSize::OneM);
-    }
-    None
 }
 
 #[inline(always)]

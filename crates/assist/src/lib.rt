@@ -17,16 +17,14 @@ use storage::Step;
 mod admission;
 
 // STORE THEN AND SYSTEM MASK or STORE THEN OR SYSTEM MASK, and which of them.
-fn mask_change(operation: u32) -> Option<MaskChange>
-    ensures { result ≡ change_by operation }
+fn mask_change(code: u32) -> Option<MaskChange>
+    ensures { result ≡ change_by code }
 {
-    if operation == 0xac {
-        return Some(MaskChange::And);
+    match code {
+        0xac => Some(MaskChange::And),
+        0xad => Some(MaskChange::Or),
+        _ => None,
     }
-    if operation == 0xad {
-        return Some(MaskChange::Or);
-    }
-    None
 }
 
 // The instruction, by its operation code, which stays a number: the manual names instructions by it, and so do the
@@ -36,25 +34,17 @@ fn instruction(storage: &mut [u8], keys: &mut [u8], call: Call) -> Step<RecordCh
         ≡ finish (seen (instruction call) (machine storage.old keys.old)) }
 {
     let operation = call.operation();
-    if operation == 0x80 {
-        return masks::set_system_mask(storage, keys, call);
-    }
-    if operation == 0xb6 {
-        return control::store_control(storage, keys, call);
-    }
     if let Some(change) = mask_change(operation) {
         return masks::store_then(storage, keys, change, call);
     }
-    if operation == 0x08 {
-        return storage_key::set_storage_key(storage, keys, call);
+    match operation {
+        0x80 => masks::set_system_mask(storage, keys, call),
+        0xb6 => control::store_control(storage, keys, call),
+        0x08 => storage_key::set_storage_key(storage, keys, call),
+        0x09 => storage_key::insert_storage_key(storage, keys, call),
+        0xb1 => real_address::load_real_address(storage, keys, call),
+        _ => storage_key::reset_reference_bit(storage, keys, call),
     }
-    if operation == 0x09 {
-        return storage_key::insert_storage_key(storage, keys, call);
-    }
-    if operation == 0xb1 {
-        return real_address::load_real_address(storage, keys, call);
-    }
-    storage_key::reset_reference_bit(storage, keys, call)
 }
 
 // The same after the tests 10, 11, 12, 13 and 9, given what the table says of the operation byte.

@@ -1,4 +1,5 @@
-// The first halfword of the virtual PSW, and which bits of its byte 0, the system mask, change.
+// The first halfword of the virtual PSW, and which bits of its byte 0, the system mask, change. A mask is a `u32`, as it
+// is fetched, stored and taken from the instruction: as a `u8` it would be converted at each of these.
 ghost use Rattle.std.specs.Prelude.{◌≡◌, ◌&&◌, ◌%◌, ◌<◌, length, set};
 ghost use Rattle.rules.specs.Writes.{perform, store};
 ghost use Rattle.rules.specs.Bits.{bit};
@@ -7,7 +8,6 @@ ghost use Rattle.storage.specs.Answers.{machine};
 
 use storage::Access;
 
-// By division, as the definition takes it.
 pub(crate) fn mask_in(first: u32) -> u32
     ensures { (result ≡ mask_in first) × (result < 256) }
 {

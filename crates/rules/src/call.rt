@@ -12,7 +12,6 @@ pub struct Call {
 }
 
 impl Call {
-    // Each field by division, as its definition takes it.
     pub fn operation_byte(self) -> u8
         ensures { result ≡ operation_byte self }
     {

@@ -1,5 +1,6 @@
 // A guest's record: the real PSW, the general registers, and real control registers 0, 1 and 6.
-// `as` stands where no `From` is: it narrows, or makes an index, and the check proves that no bit is lost.
+// `as` stands where no `From` is: it narrows, or makes an index, and the check proves that no bit is lost. Fields of a
+// word are taken by division, in this crate and above, since the definitions take them so (specs/Bits.antt).
 ghost use Rattle.std.specs.Prelude.{◌≡◌, ◌<◌};
 ghost use Rattle.rules.specs.Bits.{bit};
 ghost use Rattle.rules.specs.Guest.{instruction_address, dat_on, psw_key, extended_control, problem_state};
@@ -23,7 +24,8 @@ impl Guest {
     }
 
     // Is this bit of the PSW one? Bit 0 is leftmost. A mask of 8 bits has a function of its own (masks/src/bits.rt): one
-    // for both crates would be public, so open to places past the width, and longer than the two.
+    // for both would be public, and a public function has no `requires`, so it would have to say what a place past the
+    // width gives.
     #[tactic(auto, using(crate::proofs::Bits::bit_shifted))]
     fn psw_bit(self, place: u32) -> bool
         requires { place < 64 }
@@ -60,10 +62,11 @@ impl Guest {
     pub fn advance(self, n: u32) -> Guest
         ensures { result ≡ advance self n }
     {
-        let mut next = self;
-        let address = crate::sum((self.psw % 16777216) as u32, n);
-        next.psw = self.psw / 16777216 * 16777216 + u64::from(address);
-        next
+        let address = crate::sum(self.instruction_address(), n);
+        Guest {
+            psw: self.psw / 16777216 * 16777216 + u64::from(address),
+            ..self
+        }
     }
 
     // General register r; there is none after 15.
@@ -105,10 +108,11 @@ impl Guest {
     pub fn with_code(self, code: u32) -> Guest
         ensures { result ≡ with_code self code }
     {
-        let mut next = self;
         let left = self.psw / 70368744177664 * 70368744177664;
-        next.psw = left + u64::from(code % 4) * 17592186044416 + self.psw % 17592186044416;
-        next
+        Guest {
+            psw: left + u64::from(code % 4) * 17592186044416 + self.psw % 17592186044416,
+            ..self
+        }
     }
 
     // Base 0 means zero.

@@ -9,7 +9,8 @@ use crate::recording::{Access, is_across, record_byte, record_halfword, record_w
 pub trait Item {
     ghost bytes: { ℕ };
 
-    // The item from this address on, as a number.
+    // The item from this address on, as a number, which its callers compute with: as a value of this type each of them
+    // would convert it.
     fn read(storage: &[u8], keys: &mut [u8], at: u32) -> Option<u32>
         ensures { Fetches result storage.now keys.old keys.new at bytes };
 }
@@ -48,7 +49,8 @@ impl Item for u32 {
     }
 }
 
-// A word in one block: one key records it, where a word across blocks marks the key of each of its bytes.
+// A word in one block. `word_across` does for it too, but every word would pay for what few need (docs/DECISIONS.md,
+// "Today's forms"): one test of storage and one key do here.
 #[inline(always)]
 fn word_within(storage: &[u8], keys: &mut [u8], at: u32) -> Option<u32>
     requires { across at ≡ false }

@@ -14,7 +14,7 @@ pub enum Access {
 }
 
 impl Access {
-    // A key after this access to its block. Bits 0-4 and 7 stay as they are.
+    // A key after this access to its block, by division as in the definition. Bits 0-4 and 7 stay as they are.
     fn mark(self, key: u8) -> u8
         ensures { result ≡ marking self key }
     {
@@ -37,6 +37,8 @@ pub fn record_byte(keys: &mut [u8], access: Access, at: u32)
     }
 }
 
+// A halfword, its bytes one by one, as `record_word` its halves: over the number of bytes it would be one function, with
+// a loop and its invariant.
 pub(crate) fn record_halfword(keys: &mut [u8], access: Access, at: u32)
     ensures { keys.new ≡ marked (marking access) keys.old (addresses at 2) }
 {

@@ -11,12 +11,12 @@ ghost use Rattle.storage.specs.Items.{word_bytes};
 use crate::recording::{Access, is_across, record_byte, record_word};
 
 // By index, as in `record_byte`.
-fn put_byte(storage: &mut [u8], at: u32, value: u32)
-    ensures { storage.new ≡ slice_set storage.old at (value % 256) }
+fn put_byte(storage: &mut [u8], at: u32, byte: u8)
+    ensures { storage.new ≡ slice_set storage.old at byte }
 {
     let i = at as usize;
     if i < storage.len() {
-        storage[i] = (value % 256) as u8;
+        storage[i] = byte;
     }
 }
 
@@ -28,26 +28,28 @@ fn put_word(part: &mut [u8], value: u32)
     part.copy_from_slice(&value.to_be_bytes());
 }
 
-// A byte and a word are stored in two ways, the word in one piece where it can be: so they are two functions.
+// The rightmost byte of a number. Not one method of `Item` for this and `store_word`: halfwords, of which it would have
+// to store one too, are stored by no instruction.
 pub fn store_byte(storage: &mut [u8], keys: &mut [u8], at: u32, value: u32)
     ensures { machine storage.new keys.new
         ≡ perform (machine storage.old keys.old) (store at 1 value) }
 {
-    put_byte(storage, at, value);
+    put_byte(storage, at, (value % 256) as u8);
     record_byte(keys, Access::Store, at);
 }
 
-// Each byte at its own address, which may be round the top; `put_byte` cuts it out of the number.
+// Each byte at its own address, which may be round the top.
 fn put_bytes(storage: &mut [u8], at: u32, value: u32)
     ensures { storage.new ≡ stored storage.old (addresses at 4) value }
 {
     let second = rules::sum(at, 1);
     let third = rules::sum(second, 1);
     let fourth = rules::sum(third, 1);
-    put_byte(storage, at, value / 16777216);
-    put_byte(storage, second, value / 65536);
-    put_byte(storage, third, value / 256);
-    put_byte(storage, fourth, value);
+    let bytes = value.to_be_bytes();
+    put_byte(storage, at, bytes[0]);
+    put_byte(storage, second, bytes[1]);
+    put_byte(storage, third, bytes[2]);
+    put_byte(storage, fourth, bytes[3]);
 }
 
 // A word across a block boundary, round the top of storage or past its end: byte by byte.
@@ -59,19 +61,15 @@ fn store_across(storage: &mut [u8], keys: &mut [u8], at: u32, value: u32)
     record_word(keys, Access::Store, at);
 }
 
-// A word: the four-byte part of storage that starts at its address is lent for it, where it is in one block. By range,
-// as in `record_byte` by index.
+// A word: the four-byte part of storage that starts at its address is lent for it, where it is in one block. It is lent
+// by range, and not by `get_mut`, for the reason that `record_byte` gives.
 pub fn store_word(storage: &mut [u8], keys: &mut [u8], at: u32, value: u32)
     ensures { machine storage.new keys.new
         ≡ perform (machine storage.old keys.old) (store at 4 value) }
 {
     let start = at as usize;
     let end = start + 4;
-    if is_across(at) {
-        store_across(storage, keys, at, value);
-        return;
-    }
-    if storage.len() < end {
+    if is_across(at) || storage.len() < end {
         store_across(storage, keys, at, value);
         return;
     }

@@ -6,7 +6,7 @@ ghost use Rattle.storage.specs.Answers.{machine, seen, finished, finish};
 use crate::keys::{address_word, assists_keys, inserted_key, virtual_key};
 use crate::marks::Marks;
 use crate::pages::find_page;
-use crate::tables::{places, segment_table};
+use crate::tables::{PLACES, segment_table};
 use rules::{Call, Ending, FoundPage, Guest, KeyUse, RecordChange};
 use storage::{After, Step};
 
@@ -28,7 +28,7 @@ fn insert_key(
     // 13
     let at = access::address_in(vpsw.value);
     let first = access::control_field::<u16>(storage, keys, tried + 2, at).after(vpsw.count)?;
-    // 14: the EC mode is bit 12
+    // 14: the EC mode is bit 12, as in `is_extended` of masks; a function for both crates would be a public one more
     let key = inserted_key(first.value / 8 % 2 == 1, virtual_key(page), marks);
     storage::completed_as(RecordChange::RegisterByte(key), first.count, 0)
 }
@@ -55,9 +55,9 @@ pub fn insert_storage_key(storage: &[u8], keys: &mut [u8], call: Call) -> Step<R
     let guest = call.guest;
     let at = address_word(call) % 16777216;
     // 1 to 3
-    let rseg = segment_table(storage, keys, assists_keys(call), places(), guest)?;
+    let rseg = segment_table(storage, keys, assists_keys(call), PLACES, guest)?;
     // 4 to 10
-    let found = find_page(storage, keys, places(), rseg.value, at).after(rseg.count)?;
+    let found = find_page(storage, keys, PLACES, rseg.value, at).after(rseg.count)?;
     let page = found.value;
     // 11: on an invalid page no key is tried
     match page.block {

@@ -9,7 +9,7 @@ use crate::keys::{marks_with, reset_word, unreferred};
 use crate::marks::Marks;
 use crate::pages::find_page;
 use crate::stores::{put_key, put_swap_word};
-use crate::tables::{places, segment_table};
+use crate::tables::{PLACES, segment_table};
 use rules::{Call, Ending, FoundPage, KeyUse, RecordChange};
 use storage::{After, Step};
 
@@ -39,12 +39,12 @@ pub fn reset_reference_bit(storage: &mut [u8], keys: &mut [u8], call: Call) -> S
 {
     let guest = call.guest;
     // 1 to 3
-    let rseg = segment_table(storage, keys, guest.assists_control(), places(), guest)?;
+    let rseg = segment_table(storage, keys, guest.assists_control(), PLACES, guest)?;
     // 4
     let second = access::second_halfword(storage, keys, guest).after(rseg.count)?;
     // 5 to 11
     let at = guest.effective(second.value);
-    let found = find_page(storage, keys, places(), rseg.value, at).after(second.count)?;
+    let found = find_page(storage, keys, PLACES, rseg.value, at).after(second.count)?;
     let page = found.value;
     // 12
     match page.block {

@@ -9,7 +9,7 @@ use crate::keys::{address_word, assists_keys, key_word, new_key, swap_word};
 use crate::marks::Marks;
 use crate::pages::find_page;
 use crate::stores::{put_key, put_swap_word};
-use crate::tables::{segment_table, steps};
+use crate::tables::{STEPS, segment_table};
 use rules::{Call, Ending, FoundPage, KeyUse, RecordChange};
 use storage::{After, Step};
 
@@ -44,9 +44,9 @@ pub fn set_storage_key(storage: &mut [u8], keys: &mut [u8], call: Call) -> Step<
 {
     let at = address_word(call) % 16777216;
     // 1 to 3
-    let rseg = segment_table(storage, keys, assists_keys(call), steps(), call.guest)?;
+    let rseg = segment_table(storage, keys, assists_keys(call), STEPS, call.guest)?;
     // 4 to 10
-    let found = find_page(storage, keys, steps(), rseg.value, at).after(rseg.count)?;
+    let found = find_page(storage, keys, STEPS, rseg.value, at).after(rseg.count)?;
     let page = found.value;
     // 11
     match page.block {

@@ -1,41 +1,35 @@
 // The steps on the way to a page. Their numbers here are those of SSK and ISK.
 ghost use Rattle.std.specs.Prelude.{◌≡◌};
-ghost use Rattle.rules.specs.SwapTables.{steps, places, format_in, segment_table, segment_of, swap_word_at, page_of};
+ghost use Rattle.rules.specs.SwapTables.{format_in, segment_table, segment_of, swap_word_at, page_of};
 ghost use Rattle.storage.specs.Answers.{machine, told, seen};
 
 use access::Real;
 use rules::{Ending, FieldNumbers, Format, Guest, PageSize};
 use storage::{Counted, Step};
 
-// What ending 3 carries; by functions, since a constant has no clause. The numbers, the format and the address go one
-// by one, as in the definitions. SSK: the step.
-pub(crate) fn steps() -> FieldNumbers
-    ensures { result ≡ steps }
-{
-    FieldNumbers {
-        table: 2,
-        segment: 5,
-        swaps: 7,
-        swap: 8,
-        page: 9,
-        block: 11,
-    }
-}
+// What ending 3 carries. SSK: the step.
+pub(crate) const STEPS: FieldNumbers = FieldNumbers {
+    table: 2,
+    segment: 5,
+    swaps: 7,
+    swap: 8,
+    page: 9,
+    block: 11,
+};
 
 // ISK and RRB: the place, from 1, among these as tried.
-pub(crate) fn places() -> FieldNumbers
-    ensures { result ≡ places }
-{
-    FieldNumbers {
-        table: 1,
-        segment: 2,
-        swaps: 3,
-        swap: 4,
-        page: 5,
-        block: 6,
-    }
-}
+pub(crate) const PLACES: FieldNumbers = FieldNumbers {
+    table: 1,
+    segment: 2,
+    swaps: 3,
+    swap: 4,
+    page: 5,
+    block: 6,
+};
 
+// In these steps the numbers, the format and the address go one by one: each step's definition takes the two or three of
+// them that it wants, so a value of all three would be taken apart in every clause.
+//
 // Steps 1 to 3: MICRSEG, by whether step 1's test lets the instruction go on.
 pub(crate) fn segment_table(
     storage: &[u8],

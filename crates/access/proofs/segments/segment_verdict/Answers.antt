@@ -1,25 +1,15 @@
-use Rattle.std.proofs.Common.{◌≡◌, ℕ, List, Ok, sym, ◌∙◌, eq-eqb, ne_eqb}
-use Rattle.rules.specs.declared.tables.Format.{Format}
-use Rattle.rules.specs.Machine.{Machine}
-use Rattle.rules.specs.Steps.{Steps, ◌>>=◌}
+use Rattle.std.proofs.Common.{sym, ◌∙◌, eq-eqb, ne_eqb}
 use Rattle.rules.specs.Translation.{segment_verdict}
-use Rattle.storage.specs.declared.steps.Counted.{Counted}
-use Rattle.storage.specs.Answers.{machine, told, seen}
-use Rattle.storage.proofs.Laws.{Runs, begin, fresh, goes, chosen, rejected, settles}
+use Rattle.storage.proofs.Laws.{chosen, rejected, settles}
+use Rattle.access.proofs.Paths.{entry_given}
 use Rattle.access.proofs.segments.segment_verdict.Goals as goal
-
--- after any program that gives the entry
-abbrev given : (s ks : List ℕ) (p : Steps ℕ) (m : Machine) (x : Counted ℕ) (f : Format) (place at : ℕ)
-    → told (Ok x) s ks ≡ seen p m
-    → Runs m (p >>= segment_verdict f place at) x.count (machine s ks) (segment_verdict f place at x.value)
-given s ks p m x f place at h = goes p _ (begin m _) (fresh p m h)
 
 pub returns-then-entry-eq1 : goal.returns-then-entry-eq1
 unfolding segment_verdict
 returns-then-entry-eq1 c =
     let a = c.args in
     λ s ks p m h. rw c.fault.ensures (settles _
-    (chosen _ _ _ (given s ks p m a.entry a.format a.place a.at h) (eq-eqb _ _ c.if-entry-eq1.true)))
+    (chosen _ _ _ (entry_given s ks p m a.entry (segment_verdict a.format a.place a.at) h) (eq-eqb _ _ c.if-entry-eq1.true)))
 
 pub returns-then-entry-ne0 : goal.returns-then-entry-ne0
 unfolding segment_verdict
@@ -27,7 +17,7 @@ returns-then-entry-ne0 c =
     let a = c.args in
     λ s ks p m h. rw c.fault-then-entry-ne0.ensures (settles _
     (chosen _ _ _
-    (rejected _ _ _ (given s ks p m a.entry a.format a.place a.at h) (ne_eqb _ _ c.if-entry-eq1.false))
+    (rejected _ _ _ (entry_given s ks p m a.entry (segment_verdict a.format a.place a.at) h) (ne_eqb _ _ c.if-entry-eq1.false))
     (simp (ne_eqb _ _ c.if-entry-ne0.true))))
 
 -- step 4
@@ -38,7 +28,7 @@ returns-then-is_beyond_pages c =
     λ s ks p m h. rw (c.fault-then-is_beyond_pages.ensures, c.page_entry_at-beyond.ensures) (settles _
     (chosen _ _ _
     (rejected _ _ _
-    (rejected _ _ _ (given s ks p m a.entry a.format a.place a.at h) (ne_eqb _ _ c.if-entry-eq1.false))
+    (rejected _ _ _ (entry_given s ks p m a.entry (segment_verdict a.format a.place a.at) h) (ne_eqb _ _ c.if-entry-eq1.false))
     (simp (eq-eqb _ _ c.if-entry-ne0.false)))
     (sym c.is_beyond_pages.ensures ∙ c.if-is_beyond_pages.true)))
 
@@ -49,6 +39,6 @@ returns c =
     λ s ks p m h. settles _
     (rejected _ _ _
     (rejected _ _ _
-    (rejected _ _ _ (given s ks p m a.entry a.format a.place a.at h) (ne_eqb _ _ c.if-entry-eq1.false))
+    (rejected _ _ _ (entry_given s ks p m a.entry (segment_verdict a.format a.place a.at) h) (ne_eqb _ _ c.if-entry-eq1.false))
     (simp (eq-eqb _ _ c.if-entry-ne0.false)))
     (sym c.is_beyond_pages.ensures ∙ c.if-is_beyond_pages.false))

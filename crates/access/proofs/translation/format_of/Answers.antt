@@ -1,31 +1,25 @@
+use Rattle.std.proofs.Common.{rules}
 use Rattle.storage.specs.Answers.{seen}
-use Rattle.std.proofs.Common.{ne_eqb}
 use Rattle.rules.specs.Steps.{◌>>=◌, stop_if}
 use Rattle.rules.specs.Translation.{format_of}
 use Rattle.access.proofs.translation.format_of.Goals as goal
 
-pub returns-then-field-eq8 : goal.returns-then-field-eq8
+pub returns-in-8 : goal.returns-in-8
 unfolding seen format_of stop_if ◌>>=◌
-returns-then-field-eq8 c = λ unknown m. simp (c.format.ensures, c.if-field-eq8.true)
+returns-in-8 c = λ unknown m. simp (c.format.ensures, c.in-8.is)
 
-pub returns-then-field-eq10 : goal.returns-then-field-eq10
+pub returns-in-10 : goal.returns-in-10
 unfolding seen format_of stop_if ◌>>=◌
-returns-then-field-eq10 c = λ unknown m. simp (c.format-then-field-eq10.ensures, c.if-field-eq10.true)
+returns-in-10 c = λ unknown m. simp (c.format-in-10.ensures, c.in-10.is)
 
-pub returns-then-field-eq16 : goal.returns-then-field-eq16
+pub returns-in-16 : goal.returns-in-16
 unfolding seen format_of stop_if ◌>>=◌
-returns-then-field-eq16 c = λ unknown m. simp (c.format-then-field-eq16.ensures, c.if-field-eq16.true)
+returns-in-16 c = λ unknown m. simp (c.format-in-16.ensures, c.in-16.is)
 
-pub returns-then-field-eq18 : goal.returns-then-field-eq18
+pub returns-in-18 : goal.returns-in-18
 unfolding seen format_of stop_if ◌>>=◌
-returns-then-field-eq18 c = λ unknown m. simp (c.format-then-field-eq18.ensures, c.if-field-eq18.true)
+returns-in-18 c = λ unknown m. simp (c.format-in-18.ensures, c.in-18.is)
 
-pub returns : goal.returns
+pub returns-in_default : goal.returns-in_default
 unfolding seen format_of stop_if ◌>>=◌
-returns c =
-    λ unknown m. simp (
-      ne_eqb _ _ c.if-field-eq8.false,
-      ne_eqb _ _ c.if-field-eq10.false,
-      ne_eqb _ _ c.if-field-eq16.false,
-      ne_eqb _ _ c.if-field-eq18.false,
-    )
+returns-in_default c = λ unknown m. search rules

@@ -13,7 +13,7 @@ abbrev rseg : (c : After-segment_table)
 unfolding insert_storage_key
 rseg c =
     asks tt _ _ (begin _ _) c.segment_table.result c.args.storage.now c.segment_table.new.keys
-    (fresh _ _ (simp (c.places.ensures, c.assists_keys.ensures) at c.segment_table.ensures))
+    (fresh _ _ (simp (c.assists_keys.ensures) at c.segment_table.ensures))
 
 pub returns-in_err-rseg : goal.returns-in_err-rseg
 unfolding insert_storage_key rseg
@@ -29,7 +29,7 @@ unfolding insert_storage_key rseg
 found c =
     let here = given (rseg (goal.at.After-after c).After-segment_table) c.in_ok-rseg.was in
     asks_after tt _ _ here.runs c.find_page.result c.after.result c.args.storage.now c.find_page.new.keys
-    c.after.ensures (simp (c.places-2.ensures, c.address_word-at.ensures) at c.find_page.ensures)
+    c.after.ensures (simp (c.address_word-at.ensures) at c.find_page.ensures)
 
 pub returns-in_err-found : goal.returns-in_err-found
 unfolding insert_storage_key rseg found

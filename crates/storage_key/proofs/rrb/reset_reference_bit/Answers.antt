@@ -18,7 +18,7 @@ abbrev rseg : (c : After-segment_table)
 unfolding reset_reference_bit
 rseg c =
     asks tt _ _ (begin _ _) c.segment_table.result c.args.storage.now c.segment_table.new.keys
-    (fresh _ _ (simp (c.places.ensures, c.assists_control.ensures) at c.segment_table.ensures))
+    (fresh _ _ (simp (c.assists_control.ensures) at c.segment_table.ensures))
 
 pub returns-in_err-rseg : goal.returns-in_err-rseg
 unfolding reset_reference_bit rseg
@@ -49,7 +49,7 @@ unfolding reset_reference_bit rseg second
 found c =
     let here = given (second (goal.at.After-after-2 c).After-after) c.in_ok-second.was in
     asks_after tt _ _ here.runs c.find_page.result c.after-2.result c.args.storage.now c.find_page.new.keys
-    c.after-2.ensures (simp (c.effective-at.ensures, c.places-2.ensures) at c.find_page.ensures)
+    c.after-2.ensures (simp (c.effective-at.ensures) at c.find_page.ensures)
 
 pub returns-in_err-found : goal.returns-in_err-found
 unfolding reset_reference_bit rseg second found

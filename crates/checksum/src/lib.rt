@@ -38,7 +38,7 @@ pub fn over_word(register: u32, word: u32) -> u32
 pub fn finish(register: u32) -> u32
     ensures { result ≡ 4294967295 - register }
 {
-    4294967295 - register
+    !register
 }
 
 fn after(table: &[u32; 32], register: u32, byte: u8) -> u32

@@ -45,7 +45,7 @@ fn after(table: &[u32; 32], register: u32, byte: u8) -> u32
     requires { table.now ≡ steps }
     ensures { result ≡ after_byte register byte }
 {
-    // the register's last byte by `%`, as in `after_byte`: `to_be_bytes` would be no plainer for one
+    // by `%` and `/`, as in `after_byte`: masks and shifts would need a longer proof
     let next = (register % 256) as u8 ^ byte;
     let right = usize::from(next % 16);
     let left = usize::from(next / 16 % 16);

@@ -38,14 +38,14 @@ pub fn over_word(register: u32, word: u32) -> u32
 pub fn finish(register: u32) -> u32
     ensures { result ≡ 4294967295 - register }
 {
-    4294967295 - register
+    !register
 }
 
 fn after(table: &[u32; 32], register: u32, byte: u8) -> u32
     requires { table.now ≡ steps }
     ensures { result ≡ after_byte register byte }
 {
-    // the register's last byte by `%`, as in `after_byte`: `to_be_bytes` would be no plainer for one
+    // by `%` and `/`, as in `after_byte`: masks and shifts would need a longer proof
     let next = (register % 256) as u8 ^ byte;
     let right = usize::from(next % 16);
     let left = usize::from(next / 16 % 16);

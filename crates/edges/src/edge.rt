@@ -67,6 +67,7 @@ impl Edge {
 
     // No edge puts more than there is room for; one more would be left out.
     pub(crate) fn word(mut self, address: u32, value: u32) -> Edge {
+        // by its position: for `iter_mut().find(..)` the check would want a proof by hand
         if let Some(free) = self.words.iter().position(|word| word.is_none()) {
             self.words[free] = Some(Word { address, value });
         }

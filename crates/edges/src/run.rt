@@ -62,5 +62,5 @@ fn run_in(rt: &impl Print, storage: &mut [u8], keys: &mut [u8], edge: &Edge) -> 
     print_changes(rt, storage, 6, |address| edge.byte_at(address))?;
     print!(rt; "; keys: ")?;
     print_changes(rt, keys, 1, |number| edge.key_at(number))?;
-    println!(rt; "")
+    println!(rt;)
 }

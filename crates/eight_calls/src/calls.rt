@@ -22,13 +22,6 @@ fn usual_guest() -> Guest {
     }
 }
 
-// Page 2 in place of page 3.
-fn guest_at_page_2() -> Guest {
-    let mut guest = usual_guest();
-    guest.general[4] = 0x5A022000;
-    guest
-}
-
 fn made(guest_number: u32, guest: Guest, first: u16, installed: bool) -> GuestCall {
     GuestCall {
         guest_number,
@@ -51,6 +44,9 @@ pub(crate) fn calls() -> [GuestCall; 8] {
         cr6: 0x82000400,
         ..usual
     };
+    // page 2 in place of page 3
+    let mut at_page_2 = usual;
+    at_page_2.general[4] = 0x5A022000;
     let at_odd_address = Guest {
         psw: 0x000900CDAB001001,
         ..usual
@@ -60,7 +56,7 @@ pub(crate) fn calls() -> [GuestCall; 8] {
         made(7, usual, 0xB6E1, false),
         made(9, with_dat, 0xB655, false),
         made(9, switched_on, 0x8000, true),
-        made(7, guest_at_page_2(), 0x0834, false),
+        made(7, at_page_2, 0x0834, false),
         made(7, usual, 0x0834, false),
         made(9, at_odd_address, 0xAC07, false),
         made(7, usual, 0x0700, false),

@@ -14,9 +14,8 @@ pub(crate) struct Machine {
 impl Machine {
     pub(crate) fn new() -> Machine {
         let mut storage = [0; STORAGE_BYTES];
-        // by byte, since an address is a byte's; by word it would be no plainer
-        for (i, byte) in storage.iter_mut().enumerate() {
-            *byte = initial_word(i - i % 4).to_be_bytes()[i % 4];
+        for (word, address) in storage.chunks_exact_mut(4).zip((0..).step_by(4)) {
+            word.copy_from_slice(&initial_word(address).to_be_bytes());
         }
         Machine {
             storage,

@@ -72,8 +72,8 @@ fn try_more_room(rt: &impl Print, last: Entry) -> io::Result<()> {
 
 fn trailer(words: [u32; 4]) -> [u8; TRAILER_BYTES] {
     let mut bytes = [0; TRAILER_BYTES];
-    for (i, word) in words.iter().enumerate() {
-        bytes[4 * i..4 * i + 4].copy_from_slice(&word.to_be_bytes());
+    for (four, word) in bytes.chunks_exact_mut(4).zip(words) {
+        four.copy_from_slice(&word.to_be_bytes());
     }
     bytes
 }

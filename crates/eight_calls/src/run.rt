@@ -21,8 +21,8 @@ pub(crate) fn run_calls(
     // the first by itself, so that there is a last in any case
     let calls = calls();
     let mut last = run(rt, machine, recorder, 1, calls[0])?;
-    for (i, call) in calls.iter().enumerate().skip(1) {
-        last = run(rt, machine, recorder, i + 1, *call)?;
+    for (number, call) in (2..).zip(&calls[1..]) {
+        last = run(rt, machine, recorder, number, *call)?;
     }
     Ok(last)
 }

@@ -1,6 +1,4 @@
 // Fields of a line: a space, then a number in lower-case hexadecimal digits.
-ghost use Rattle.std.specs.Prelude.{IfSome, ◌<◌};
-
 use crate::trouble::Trouble;
 
 // What is left of a line.
@@ -21,15 +19,13 @@ impl<'a> Fields<'a> {
         self.rest = rest;
         number
             .iter()
-            .try_fold(0, |value, &c| Some(value % 0x10000000 * 16 + digit(c)?))
+            .try_fold(0, |value, &c| Some(value << 4 | digit(c)?))
             .ok_or(Trouble::Form)
     }
 }
 
 // The value of a digit's character. `char::to_digit` takes capitals too.
-fn digit(c: u8) -> Option<u32>
-    ensures { IfSome result (λ d. d < 16) }
-{
+fn digit(c: u8) -> Option<u32> {
     match c {
         b'0'..=b'9' => Some(u32::from(c - b'0')),
         b'a'..=b'f' => Some(u32::from(c - b'a' + 10)),

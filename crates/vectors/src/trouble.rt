@@ -1,39 +1,30 @@
 // Why a run stops before its input has ended well.
-use std::error::Error;
+use std::io;
 use std::num::TryFromIntError;
-use std::{fmt, io};
+use thiserror::Error;
 
 // What is wrong with the input: docs/VECTORS.md, "What is printed".
-#[derive(Clone, Copy, Debug)]
+#[derive(Clone, Copy, Debug, Error)]
 pub(crate) enum Trouble {
+    #[error("unknown kind of line")]
     Kind,
+    #[error("the input ends here")]
     Ends,
+    #[error("not of the form that its kind has")]
     Form,
+    #[error("more storage or keys than this program holds")]
     Room,
+    #[error("an address or key number that is not there")]
     Place,
+    #[error("a call before its storage and record")]
     Early,
+    #[error("wrong checksum: the text is damaged")]
     Checksum,
+    #[error("wrong number of calls at the end")]
     Calls,
+    #[error("text after the end")]
     After,
 }
-
-impl fmt::Display for Trouble {
-    fn fmt<W: fmt::Write>(&self, f: &mut fmt::Formatter<W>) -> fmt::Result {
-        f.write_str(match self {
-            Trouble::Kind => "unknown kind of line",
-            Trouble::Ends => "the input ends here",
-            Trouble::Form => "not of the form that its kind has",
-            Trouble::Room => "more storage or keys than this program holds",
-            Trouble::Place => "an address or key number that is not there",
-            Trouble::Early => "a call before its storage and record",
-            Trouble::Checksum => "wrong checksum: the text is damaged",
-            Trouble::Calls => "wrong number of calls at the end",
-            Trouble::After => "text after the end",
-        })
-    }
-}
-
-impl Error for Trouble {}
 
 // A number that its field has no room for. None comes: two digits fit a byte, and four a halfword.
 impl From<TryFromIntError> for Trouble {
@@ -43,20 +34,9 @@ impl From<TryFromIntError> for Trouble {
 }
 
 // The input is not of its form, or reading or printing failed.
-#[derive(Debug, Drop)]
+#[derive(Debug, Drop, Error)]
+#[error(transparent)]
 pub(crate) enum Stop {
-    Trouble(Trouble),
-    Io(io::Error),
-}
-
-impl From<Trouble> for Stop {
-    fn from(trouble: Trouble) -> Stop {
-        Stop::Trouble(trouble)
-    }
-}
-
-impl From<io::Error> for Stop {
-    fn from(e: io::Error) -> Stop {
-        Stop::Io(e)
-    }
+    Trouble(#[from] Trouble),
+    Io(#[from] io::Error),
 }

@@ -8,7 +8,7 @@ use rules::Guest;
 fn joined(left: u32, right: u32) -> u64
     ensures { result ≡ left * 2 ^ 32 + right }
 {
-    u64::from(left) * 4294967296 + u64::from(right)
+    u64::from(left) << 32 | u64::from(right)
 }
 
 // Words 2 to 17. One move of 64 bytes, and not sixteen reads.
@@ -39,7 +39,7 @@ pub(crate) fn words_of(guest: Guest) -> [u32; 21]
     ensures { result ≡ words_of guest }
 {
     let mut words = [0; 21];
-    words[0] = (guest.psw / 4294967296 % 4294967296) as u32;
+    words[0] = (guest.psw >> 32) as u32;
     words[1] = (guest.psw % 4294967296) as u32;
     words[18] = guest.cr0;
     words[19] = guest.cr1;

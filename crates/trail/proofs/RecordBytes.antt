@@ -6,6 +6,7 @@ use mathlib.Core.Bool.{Bool, true, false}
 use mathlib.Core.List.{[], ◌∷◌, ◌++◌}
 use lib.Bits.{bit_and, bit_or}
 use Rattle.std.specs.Int.{from_bool}
+use Rattle.std.proofs.Common.{rules}
 use Rattle.std.proofs.lemmas.Nat.{or_shifted, and_mask}
 use Rattle.trail.specs.Words.{big_endian}
 use Rattle.trail.specs.Records.{flag}
@@ -15,17 +16,18 @@ pub flag_number : (b : Bool) → from_bool b ≡ flag b
 flag_number false = refl
 flag_number true = refl
 
--- fields of 16 bits, 8 and 8 share no bit, and lose none
-pub three_fields : (a b c : ℕ) → a < 2 ^ 16 → b < 2 ^ 8 → c < 2 ^ 8
-    → bit_or (bit_or (a * 2 ^ 16 % 2 ^ 32) (b * 2 ^ 8 % 2 ^ 32)) c ≡ a * 2 ^ 16 + b * 2 ^ 8 + c
-three_fields a b c f g h =
-    let left : a * 2 ^ 16 % 2 ^ 32 ≡ a * 2 ^ 16 = omega arith in
-    let second : b * 2 ^ 8 % 2 ^ 32 ≡ b * 2 ^ 8 = omega arith in
-    let two : a * 2 ^ 16 + b * 2 ^ 8 ≡ (a * 2 ^ 8 + b) * 2 ^ 8 = omega arith in
-    (λ i. bit_or (bit_or (left i) (second i)) c)
-    ∙ ap (λ n. bit_or n c) (or_shifted a 16 (b * 2 ^ 8) (omega arith) ∙ two)
-    ∙ or_shifted (a * 2 ^ 8 + b) 8 c h
-    ∙ omega arith
+-- a halfword and two bytes share no bit of their word, and lose none
+pub halfword_bytes : (a b c : ℕ) → a < 2 ^ 16
+    → big_endian 4 (bit_or (bit_or (a * 2 ^ 16 % 2 ^ 32) (b % 256 * 2 ^ 8 % 2 ^ 32)) (c % 256))
+    ≡ big_endian 2 a ++ (big_endian 1 b ++ big_endian 1 c)
+halfword_bytes a b c h =
+    let halfword : a * 2 ^ 16 % 2 ^ 32 ≡ a * 2 ^ 16 = omega arith in
+    let left : b % 256 * 2 ^ 8 % 2 ^ 32 ≡ b % 256 * 2 ^ 8 = omega arith in
+    let three : a * 2 ^ 16 + b % 256 * 2 ^ 8 ≡ (a * 2 ^ 8 + b % 256) * 2 ^ 8 = omega arith in
+    let sum = (λ i. bit_or (bit_or (halfword i) (left i)) (c % 256))
+    ∙ ap (λ n. bit_or n (c % 256)) (or_shifted a 16 (b % 256 * 2 ^ 8) (omega arith) ∙ three)
+    ∙ or_shifted (a * 2 ^ 8 + b % 256) 8 (c % 256) (omega arith) in
+    rw sum (search rules)
 
 -- a doubleword is two words, left first
 pub two_words : (v : ℕ) → big_endian 4 (v / 4294967296) ++ big_endian 4 (bit_and v 4294967295) ≡ big_endian 8 v

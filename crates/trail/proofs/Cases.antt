@@ -1,6 +1,6 @@
 -- What a call on a trail comes to, by the answers of its tests.
 use Prim.Native.Nat.{ℕ, ◌+◌, ◌≤◌}
-use mathlib.Core.Path.{◌≡◌, refl, sym, ap}
+use mathlib.Core.Path.{◌≡◌, refl, sym, ap, ◌∙◌}
 use mathlib.Core.Bool.{Bool, true, false, cond, not}
 use mathlib.Core.List.{List}
 use lib.ListN.{length}
@@ -8,9 +8,12 @@ use lib.Dec.{ltb, leb}
 use lib.Seq.{sets}
 use borrow.Author.Tests.{le-ltb, ltb-false, leb-true}
 use Rattle.std.proofs.lemmas.Option.{none-some}
+use Rattle.std.proofs.lemmas.Result.{err_from_is_err_and}
 use Rattle.operations.proofs.Junctions.{both_true}
 use Rattle.trail.specs.Records.{Entry, trailer_bytes}
-use Rattle.std.specs.Prelude.{None, Some}
+use Rattle.std.specs.Prelude.{None, Some, Result}
+use Rattle.std.specs.Result.{IsErrAnd}
+use Rattle.trail.specs.Answers.{told}
 use Rattle.trail.specs.Trails.{
   Refusal,
   Trail,
@@ -20,6 +23,7 @@ use Rattle.trail.specs.Trails.{
   distance,
   largest,
   trailer_size,
+  refusal_number,
   trailer_found,
   has_room,
   start_refusal,
@@ -83,6 +87,17 @@ write_cases b held e P short missing goes stays =
     by false false f z r = missing
     by false true f true r = goes f r
     by false true f false r = stays f r
+
+-- the refusal that a `?` hands on, as a trail
+pub refusal_told : (answer : Result ℕ Refusal) (r : Refusal) (given : ℕ) (b : List ℕ) → IsErrAnd answer (λ x. x ≡ r)
+    → told answer given b ≡ trail (Some r) given b
+refusal_told answer r given b h =
+    let p = err_from_is_err_and answer h in
+    ap (λ x. told x given b) p.1 ∙ ap (λ x. trail (Some x) given b) p.2
+
+-- trails that are the same have the same refusal's number
+pub same_number : {t u : Trail} → t ≡ u → refusal_number t.refusal ≡ refusal_number u.refusal
+same_number h = ap (λ t. refusal_number t.refusal) h
 
 -- a start that is refused, and one that is not
 pub start_refused : (b : List ℕ) (r : Refusal) → Some r ≡ start_refusal b → trail (Some r) 0 b ≡ start b

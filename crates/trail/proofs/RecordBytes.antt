@@ -1,10 +1,13 @@
 -- A record, as words and as bytes.
-use Prim.Native.Nat.{ℕ, ◌/◌, ◌%◌, ◌^◌}
+use Prim.Native.Nat.{ℕ, ◌+◌, ◌*◌, ◌/◌, ◌%◌, ◌^◌, ◌<◌}
 use native.Mathlib.Omega.{arith}
-use mathlib.Core.Path.{◌≡◌, refl}
+use mathlib.Core.Path.{◌≡◌, refl, ap, ◌∙◌}
 use mathlib.Core.Bool.{Bool, true, false}
 use mathlib.Core.List.{[], ◌∷◌, ◌++◌}
+use lib.Bits.{bit_and, bit_or}
 use Rattle.std.specs.Int.{from_bool}
+use Rattle.std.proofs.Common.{rules}
+use Rattle.std.proofs.lemmas.Nat.{or_shifted, and_mask}
 use Rattle.trail.specs.Words.{big_endian}
 use Rattle.trail.specs.Records.{flag}
 
@@ -13,8 +16,21 @@ pub flag_number : (b : Bool) → from_bool b ≡ flag b
 flag_number false = refl
 flag_number true = refl
 
+-- a halfword and two bytes share no bit of their word, and lose none
+pub halfword_bytes : (a b c : ℕ) → a < 2 ^ 16
+    → big_endian 4 (bit_or (bit_or (a * 2 ^ 16 % 2 ^ 32) (b % 256 * 2 ^ 8 % 2 ^ 32)) (c % 256))
+    ≡ big_endian 2 a ++ (big_endian 1 b ++ big_endian 1 c)
+halfword_bytes a b c h =
+    let halfword : a * 2 ^ 16 % 2 ^ 32 ≡ a * 2 ^ 16 = omega arith in
+    let left : b % 256 * 2 ^ 8 % 2 ^ 32 ≡ b % 256 * 2 ^ 8 = omega arith in
+    let three : a * 2 ^ 16 + b % 256 * 2 ^ 8 ≡ (a * 2 ^ 8 + b % 256) * 2 ^ 8 = omega arith in
+    let sum = (λ i. bit_or (bit_or (halfword i) (left i)) (c % 256))
+    ∙ ap (λ n. bit_or n (c % 256)) (or_shifted a 16 (b % 256 * 2 ^ 8) (omega arith) ∙ three)
+    ∙ or_shifted (a * 2 ^ 8 + b % 256) 8 (c % 256) (omega arith) in
+    rw sum (search rules)
+
 -- a doubleword is two words, left first
-pub two_words : (v : ℕ) → big_endian 4 (v / 4294967296) ++ big_endian 4 (v % 4294967296) ≡ big_endian 8 v
+pub two_words : (v : ℕ) → big_endian 4 (v / 4294967296) ++ big_endian 4 (bit_and v 4294967295) ≡ big_endian 8 v
 two_words v =
     let a : v / 4294967296 / 16777216 % 256 ≡ v / 256 ^ 7 % 256 = omega arith in
     let b : v / 4294967296 / 65536 % 256 ≡ v / 256 ^ 6 % 256 = omega arith in
@@ -23,4 +39,5 @@ two_words v =
     let f : v % 4294967296 / 65536 % 256 ≡ v / 256 ^ 2 % 256 = omega arith in
     let g : v % 4294967296 / 256 % 256 ≡ v / 256 % 256 = omega arith in
     let h : v % 4294967296 % 256 ≡ v % 256 = omega arith in
-    λ i. a i ∷ b i ∷ c i ∷ v / 4294967296 % 256 ∷ e i ∷ f i ∷ g i ∷ h i ∷ []
+    ap (λ low. big_endian 4 (v / 4294967296) ++ big_endian 4 low) (and_mask v 32)
+    ∙ λ i. a i ∷ b i ∷ c i ∷ v / 4294967296 % 256 ∷ e i ∷ f i ∷ g i ∷ h i ∷ []

@@ -8,16 +8,14 @@ use rules::Guest;
 fn joined(left: u32, right: u32) -> u64
     ensures { result ≡ left * 2 ^ 32 + right }
 {
-    u64::from(left) * 4294967296 + u64::from(right)
+    u64::from(left) << 32 | u64::from(right)
 }
 
-// Words 2 to 17. One move of 64 bytes, and not sixteen reads.
+// They are words 2 to 17.
 fn general_registers(words: [u32; 21]) -> [u32; 16]
     ensures { result ≡ take 16 (drop 2 words) }
 {
-    let mut general = [0; 16];
-    general.copy_from_slice(&words[2..18]);
-    general
+    *words[2..].first_chunk().unwrap()
 }
 
 // The second clause is what the type says of the words: a caller who holds them by reference isn't told.
@@ -34,13 +32,13 @@ pub(crate) fn guest_of(words: [u32; 21]) -> Guest
     }
 }
 
-// Words 2 to 17 are one move here too.
+// The general registers go in last: in this order it proves without an answer.
 pub(crate) fn words_of(guest: Guest) -> [u32; 21]
     ensures { result ≡ words_of guest }
 {
     let mut words = [0; 21];
-    words[0] = (guest.psw / 4294967296 % 4294967296) as u32;
-    words[1] = (guest.psw % 4294967296) as u32;
+    words[0] = (guest.psw >> 32) as u32;
+    words[1] = (guest.psw & 0xFFFF_FFFF) as u32;
     words[18] = guest.cr0;
     words[19] = guest.cr1;
     words[20] = guest.cr6;

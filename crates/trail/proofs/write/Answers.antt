@@ -1,22 +1,17 @@
 use Rattle.std.proofs.Common.{ap, sym, ◌∙◌, ◌+◌}
 use Rattle.std.specs.Prelude.{None}
-use Rattle.std.proofs.lemmas.Result.{err_from_is_err_and}
-use Rattle.trail.specs.Trails.{trail, refusal_number, add, turn_away}
-use Rattle.trail.proofs.Cases.{written_refused, allowed, writes_added, writes_not_added}
+use Rattle.trail.specs.Trails.{trail, add, turn_away}
+use Rattle.trail.proofs.Cases.{refusal_told, same_number, written_refused, allowed, writes_added, writes_not_added}
 use Rattle.trail.proofs.write.Goals as goal
 
 pub returns-in_err-check_trailer-clause-trail : goal.returns-in_err-check_trailer-clause-trail
 returns-in_err-check_trailer-clause-trail c =
     let a = c.args in
-    let p = err_from_is_err_and c.from_residual.result c.from_residual.ensures.1 in
-    rw (p.1, p.2) (written_refused a.buffer.now a.held a.entry _ c.in_err-check_trailer.ensures)
+    refusal_told _ _ a.held a.buffer.now c.from_residual.ensures.1
+    ∙ written_refused a.buffer.now a.held a.entry _ c.in_err-check_trailer.ensures
 
 pub returns-in_err-check_trailer-clause-number : goal.returns-in_err-check_trailer-clause-number
-returns-in_err-check_trailer-clause-number c =
-    let a = c.args in
-    let p = err_from_is_err_and c.from_residual.result c.from_residual.ensures.1 in
-    rw (p.1, p.2)
-    (ap (λ t. refusal_number t.refusal) (written_refused a.buffer.now a.held a.entry _ c.in_err-check_trailer.ensures))
+returns-in_err-check_trailer-clause-number c = same_number (returns-in_err-check_trailer-clause-trail c)
 
 pub returns-then-has_room-clause-trail : goal.returns-then-has_room-clause-trail
 unfolding add
@@ -27,7 +22,7 @@ returns-then-has_room-clause-trail c =
     ∙ sym (writes_added a.buffer.now a.held a.entry may.long may.found (sym c.if-has_room.ensures))
 
 pub returns-then-has_room-clause-number : goal.returns-then-has_room-clause-number
-returns-then-has_room-clause-number c = ap (λ t. refusal_number t.refusal) (returns-then-has_room-clause-trail c)
+returns-then-has_room-clause-number c = same_number (returns-then-has_room-clause-trail c)
 
 pub returns-else-has_room-clause-trail : goal.returns-else-has_room-clause-trail
 unfolding turn_away
@@ -38,4 +33,4 @@ returns-else-has_room-clause-trail c =
     ∙ sym (writes_not_added a.buffer.now a.held a.entry may.long may.found (sym c.if-has_room.ensures))
 
 pub returns-else-has_room-clause-number : goal.returns-else-has_room-clause-number
-returns-else-has_room-clause-number c = ap (λ t. refusal_number t.refusal) (returns-else-has_room-clause-trail c)
+returns-else-has_room-clause-number c = same_number (returns-else-has_room-clause-trail c)

@@ -1,8 +1,8 @@
 // Step 5: the registers fetched, then every operand word tested in rising order.
 //
 // The words stand in an array with their number beside it, since there is no heap. The loops go by index: of an array
-// whose elements `iter_mut` has lent, a proof doesn't know what they hold. They are two: as one, what is asked and where
-// it goes on would be a trait with two impls, as `Entries` of access is, and longer than the second loop. Their
+// whose elements `iter_mut` has lent, a proof doesn't know what they hold. They are two: as one, what is asked and
+// where it goes on would be a trait with two impls, as `Entries` of access is, and longer than the second loop. Their
 // invariant is one (proofs/Turns.antt).
 ghost use Rattle.std.specs.Prelude.{◌<◌, ◌≤◌, ◌≡◌};
 ghost use Rattle.rules.specs.StoreControl.{virtual_registers, operand_words};

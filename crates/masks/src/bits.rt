@@ -1,5 +1,5 @@
-// The first halfword of the virtual PSW, and which bits of its byte 0, the system mask, change. A mask is a `u32`, as it
-// is fetched, stored and taken from the instruction: as a `u8` it would be converted at each of these.
+// The first halfword of the virtual PSW, and which bits of its byte 0, the system mask, change. A mask is a `u32`, as
+// it is fetched, stored and taken from the instruction: as a `u8` it would be converted at each of these.
 ghost use Rattle.std.specs.Prelude.{◌≡◌, ◌&&◌, ◌%◌, ◌<◌, length, set};
 ghost use Rattle.rules.specs.Writes.{perform, store};
 ghost use Rattle.rules.specs.Bits.{bit};

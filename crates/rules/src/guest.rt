@@ -23,9 +23,9 @@ impl Guest {
         (self.psw % 16777216) as u32
     }
 
-    // Is this bit of the PSW one? Bit 0 is leftmost. A mask of 8 bits has a function of its own (masks/src/bits.rt): one
-    // for both would be public, and a public function has no `requires`, so it would have to say what a place past the
-    // width gives.
+    // Is this bit of the PSW one? Bit 0 is leftmost. A mask of 8 bits has a function of its own (masks/src/bits.rt):
+    // one for both would be public, and a public function has no `requires`, so it would have to say what a place past
+    // the width gives.
     #[tactic(auto, using(crate::proofs::Bits::bit_shifted))]
     fn psw_bit(self, place: u32) -> bool
         requires { place < 64 }

@@ -37,8 +37,8 @@ pub fn record_byte(keys: &mut [u8], access: Access, at: u32)
     }
 }
 
-// A halfword, its bytes one by one, as `record_word` its halves: over the number of bytes it would be one function, with
-// a loop and its invariant.
+// A halfword, its bytes one by one, as `record_word` its halves: over the number of bytes it would be one function,
+// with a loop and its invariant.
 pub(crate) fn record_halfword(keys: &mut [u8], access: Access, at: u32)
     ensures { keys.new ≡ marked (marking access) keys.old (addresses at 2) }
 {

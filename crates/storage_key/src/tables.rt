@@ -27,8 +27,8 @@ pub(crate) const PLACES: FieldNumbers = FieldNumbers {
     block: 6,
 };
 
-// In these steps the numbers, the format and the address go one by one: each step's definition takes the two or three of
-// them that it wants, so a value of all three would be taken apart in every clause.
+// In these steps the numbers, the format and the address go one by one: each step's definition takes the two or three
+// of them that it wants, so a value of all three would be taken apart in every clause.
 //
 // Steps 1 to 3: MICRSEG, by whether step 1's test lets the instruction go on.
 pub(crate) fn segment_table(

@@ -30,7 +30,7 @@ halfword_bytes a b c h =
     rw sum (search rules)
 
 -- a doubleword is two words, left first
-pub two_words : (v : ℕ) → big_endian 4 (v / 4294967296) ++ big_endian 4 (bit_and v 4294967295) ≡ big_endian 8 v
+pub two_words : (v : ℕ) → big_endian 4 (v / 4294967296) ++ big_endian 4 (v % 4294967296) ≡ big_endian 8 v
 two_words v =
     let a : v / 4294967296 / 16777216 % 256 ≡ v / 256 ^ 7 % 256 = omega arith in
     let b : v / 4294967296 / 65536 % 256 ≡ v / 256 ^ 6 % 256 = omega arith in
@@ -39,5 +39,8 @@ two_words v =
     let f : v % 4294967296 / 65536 % 256 ≡ v / 256 ^ 2 % 256 = omega arith in
     let g : v % 4294967296 / 256 % 256 ≡ v / 256 % 256 = omega arith in
     let h : v % 4294967296 % 256 ≡ v % 256 = omega arith in
-    ap (λ low. big_endian 4 (v / 4294967296) ++ big_endian 4 low) (and_mask v 32)
-    ∙ λ i. a i ∷ b i ∷ c i ∷ v / 4294967296 % 256 ∷ e i ∷ f i ∷ g i ∷ h i ∷ []
+    λ i. a i ∷ b i ∷ c i ∷ v / 4294967296 % 256 ∷ e i ∷ f i ∷ g i ∷ h i ∷ []
+
+-- the right one by a mask
+pub masked_words : (v : ℕ) → big_endian 4 (v / 4294967296) ++ big_endian 4 (bit_and v 4294967295) ≡ big_endian 8 v
+masked_words v = ap (λ low. big_endian 4 (v / 4294967296) ++ big_endian 4 low) (and_mask v 32) ∙ two_words v

@@ -3,7 +3,7 @@ use borrow.Rule.Slice.PartMut.{put_mid}
 use Rattle.trail.specs.Words.{big_endian, words_bytes}
 use Rattle.trail.specs.Records.{general_registers, record_bytes}
 use Rattle.trail.proofs.Puts.{elements_all}
-use Rattle.trail.proofs.RecordBytes.{flag_number, two_words}
+use Rattle.trail.proofs.RecordBytes.{flag_number, masked_words}
 use Rattle.trail.proofs.records.record_words.Goals as goal
 
 pub returns : goal.returns
@@ -20,7 +20,7 @@ returns c =
     ∙ ap (λ f. big_endian 2 e.call.first ++ (big_endian 1 f ++ big_endian 1 e.ending))
     (c.from.ensures ∙ flag_number e.call.installed) in
     let third = c.halfwords.ensures in
-    let psw = two_words g.psw in
+    let psw = masked_words g.psw in
     let zeros : List ℕ = replicate 24 0 in
     let placed : (front registers last : List ℕ) → List ℕ = λ front registers last.
     words_bytes (put_mid 24 3 (put_mid 8 16 (front ++ zeros) registers) last) in

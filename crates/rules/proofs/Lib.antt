@@ -4,6 +4,7 @@ pub mod Bind
 pub mod Within
 pub mod Fits
 pub mod Small
+pub mod Bytes
 pub mod Bits
 pub mod Items
 pub mod All

@@ -19,7 +19,8 @@ pub(crate) fn put_key(keys: &mut [u8], block: u32, key: u8)
     keys[i] = key;
 }
 
-// The four bytes of a word, each at its own address.
+// The four bytes of a word, each at its own address: round the top too, so no slice. In one block the compiler makes
+// one store of them (docs/DECISIONS.md).
 fn put_bytes(
     storage: &mut [u8],
     first: usize,

@@ -1,4 +1,6 @@
 // Fields of a line: a space, then a number in lower-case hexadecimal digits.
+ghost use Rattle.std.specs.Prelude.{IfSome, ◌<◌};
+
 use crate::trouble::Trouble;
 
 // What is left of a line.
@@ -25,7 +27,9 @@ impl<'a> Fields<'a> {
 }
 
 // The value of a digit's character. `char::to_digit` takes capitals too.
-fn digit(c: u8) -> Option<u32> {
+fn digit(c: u8) -> Option<u32>
+    ensures { IfSome result (λ d. d < 16) }
+{
     match c {
         b'0'..=b'9' => Some(u32::from(c - b'0')),
         b'a'..=b'f' => Some(u32::from(c - b'a' + 10)),

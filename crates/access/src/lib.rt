@@ -1,8 +1,8 @@
 // How an instruction reaches storage: translation, the access test, logical fetches, and the control program's fields.
 //
-// The format, the table or entry, and the address of a walk go one by one, as in the definitions: a value of the three
-// would be made anew for each half of a walk, and one of the format and the address taken apart in every clause, since
-// each definition takes the two one by one.
+// The format, the table or entry, and the address of a walk go one by one, as in the definitions. A value that holds
+// all three would be made anew for each half of a walk; one that holds the format and the address would be taken apart
+// in every clause.
 #![tactic(auto)]
 
 mod control_fields;

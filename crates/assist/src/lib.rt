@@ -28,7 +28,8 @@ fn mask_change(code: u32) -> Option<MaskChange>
 }
 
 // The instruction, by its operation code, which stays a number: the manual names instructions by it, and so do the
-// table and the definitions. Each is called at one place, so that the compiler puts it there.
+// table and the definitions. Each is called at one place, so that the compiler puts it there; so the two that change a
+// mask are told from the others first.
 fn instruction(storage: &mut [u8], keys: &mut [u8], call: Call) -> Step<RecordChange>
     ensures { finished result storage.new keys.new
         ≡ finish (seen (instruction call) (machine storage.old keys.old)) }

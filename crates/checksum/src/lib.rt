@@ -45,7 +45,7 @@ fn after(table: &[u32; 32], register: u32, byte: u8) -> u32
     requires { table.now ≡ steps }
     ensures { result ≡ after_byte register byte }
 {
-    // by `%` and `/`, as in `after_byte`: masks and shifts would need a longer proof
+    // by `%` and `/`, as in `after_byte`: masks and shifts say the same, and are no plainer
     let next = (register % 256) as u8 ^ byte;
     let right = usize::from(next % 16);
     let left = usize::from(next / 16 % 16);

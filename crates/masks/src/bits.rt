@@ -56,6 +56,7 @@ pub(crate) fn any_rises_pending(pending: bool, old: u32, new: u32) -> bool
     any_rises(old, new)
 }
 
+// Without a test, for the reason below.
 fn put_byte(storage: &mut [u8], at: u32, value: u32)
     requires { at < length storage.old }
     ensures { storage.new ≡ set storage.old at (value % 256) }

@@ -1,6 +1,7 @@
 // A guest's record: the real PSW, the general registers, and real control registers 0, 1 and 6.
 // `as` stands where no `From` is: it narrows, or makes an index, and the check proves that no bit is lost. Fields of a
-// word are taken by division, in this crate and above, since the definitions take them so (specs/Bits.antt).
+// word are taken by division, here and in the crates that follow document 01's steps, since the definitions take them
+// so (specs/Bits.antt).
 ghost use Rattle.std.specs.Prelude.{◌≡◌, ◌<◌};
 ghost use Rattle.rules.specs.Bits.{bit};
 ghost use Rattle.rules.specs.Guest.{instruction_address, dat_on, psw_key, extended_control, problem_state};

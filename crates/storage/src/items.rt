@@ -19,7 +19,8 @@ pub(crate) fn halfword_at(storage: &[u8], at: u32) -> Option<u16>
     Some(u16::from_be_bytes([left, right]))
 }
 
-// A word byte by byte, wherever its bytes are. Its halves are joined by arithmetic: std has no method for that.
+// A word byte by byte, wherever its bytes are. Its halves are joined by a sum, as the definition of a number
+// by its bytes has them (`value`); a shift would say the same.
 fn word_by_bytes(storage: &[u8], at: u32) -> Option<u32>
     ensures { result ≡ item_at storage.now at 4 }
 {

@@ -28,7 +28,8 @@ fn insert_key(
     // 13
     let at = access::address_in(vpsw.value);
     let first = access::control_field::<u16>(storage, keys, tried + 2, at).after(vpsw.count)?;
-    // 14: the EC mode is bit 12, as in `is_extended` of masks; a function for both crates would be a public one more
+    // 14: the EC mode is bit 12, as in `is_extended` of masks; for both crates it would be a public function, with a
+    // promise and wrong programs of its own, for one test
     let key = inserted_key(first.value / 8 % 2 == 1, virtual_key(page), marks);
     storage::completed_as(RecordChange::RegisterByte(key), first.count, 0)
 }

@@ -47,7 +47,7 @@ pub(crate) fn segment_table(
     }
     // 2
     let rseg = access::micblok_word(storage, keys, numbers.table, access::MICRSEG, guest)?;
-    // 3: bit 30
+    // 3: bit 30, as in `page_size_in` of access, which is inner; public, it would be one promise more for one test
     if rseg.value / 2 % 2 == 1 {
         return storage::refuse(rseg.count);
     }

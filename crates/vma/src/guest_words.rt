@@ -32,7 +32,7 @@ pub(crate) fn guest_of(words: [u32; 21]) -> Guest
     }
 }
 
-// The general registers go in last: in this order it proves without an answer.
+// The general registers go in last: in this order the check finds the proof alone.
 pub(crate) fn words_of(guest: Guest) -> [u32; 21]
     ensures { result ≡ words_of guest }
 {

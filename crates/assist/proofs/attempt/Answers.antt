@@ -1,5 +1,5 @@
 use Rattle.std.proofs.Common.{◌≤◌, sym, ap, ◌∙◌, subst}
-use Rattle.operations.specs.Operations.{length_of, begins_assisted}
+use Rattle.operations.specs.Operations.{length_of}
 use Rattle.rules.specs.declared.call.Call.{Call}
 use Rattle.rules.specs.Endings.{numbers}
 use Rattle.rules.proofs.Theorems.Count.{count_bounded}
@@ -7,12 +7,6 @@ use Rattle.storage.specs.Answers.{machine}
 use Rattle.assist.specs.Attempted.{answer_of, attempted}
 use Rattle.assist.proofs.Concluded.{shown, attempts}
 use Rattle.assist.proofs.attempt.Goals as goal
-
--- the table's mark
-pub program-concluded-requires : goal.program-concluded-requires
-program-concluded-requires c =
-    ap (λ o. o.assisted) c.operation_of-operation.ensures
-    ∙ ap begins_assisted c.operation_byte.ensures
 
 pub returns : goal.returns
 unfolding attempted

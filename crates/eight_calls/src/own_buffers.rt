@@ -3,7 +3,7 @@
 use crate::recorder::UNUSED;
 use crate::show::{Outcome, RECORD_BYTES, TRAILER_BYTES, print_outcome, print_trailer};
 use std::io;
-use trail::{Entry, Refusal};
+use trail::{Entry, Refused};
 
 const ONE_RECORD: usize = RECORD_BYTES + TRAILER_BYTES;
 
@@ -25,12 +25,12 @@ fn try_lengths(rt: &impl Print, last: Entry) -> io::Result<()> {
 }
 
 fn try_length(rt: &impl Print, buffer: &mut [u8], last: Entry) -> io::Result<()> {
-    let outcome = Outcome::of(write_first(buffer, last), 0);
+    let outcome = Outcome::of(write_first(buffer, last));
     print!(rt; "{} bytes: ", buffer.len())?;
     print_outcome(rt, outcome, buffer)
 }
 
-fn write_first(buffer: &mut [u8], last: Entry) -> Result<u32, Refusal> {
+fn write_first(buffer: &mut [u8], last: Entry) -> Result<u32, Refused> {
     let held = trail::start(buffer)?;
     trail::write(buffer, held, last)
 }
@@ -50,7 +50,7 @@ fn try_other_trailers(rt: &impl Print, last: Entry) -> io::Result<()> {
 
 // In what a buffer holds, with no start.
 fn try_given(rt: &impl Print, name: &str, buffer: &mut [u8], last: Entry) -> io::Result<()> {
-    let outcome = Outcome::of(trail::write(buffer, 0, last), 0);
+    let outcome = Outcome::of(trail::write(buffer, 0, last));
     print!(rt; "{name}: ")?;
     print_outcome(rt, outcome, buffer)
 }
@@ -58,7 +58,7 @@ fn try_given(rt: &impl Print, name: &str, buffer: &mut [u8], last: Entry) -> io:
 // The trailer at the front has this record number, and would be found if 128 times the number were taken modulo 2^32.
 fn try_wrapped(rt: &impl Print, last: Entry) -> io::Result<()> {
     let mut buffer = trailer([0, WRAPPED, 0, 1]);
-    let outcome = Outcome::of(trail::write(&mut buffer, WRAPPED, last), WRAPPED);
+    let outcome = Outcome::of(trail::write(&mut buffer, WRAPPED, last));
     print!(rt; "wrapped: {outcome}")?;
     print_trailer(rt, &buffer, 0)
 }

@@ -1,6 +1,6 @@
 // Parts of the lines.
 use std::{fmt, io};
-use trail::{Entry, Refusal};
+use trail::{Entry, Refused};
 
 pub(crate) const RECORD_BYTES: usize = 128;
 
@@ -8,32 +8,25 @@ pub(crate) const TRAILER_BYTES: usize = 16;
 
 const LINE_BYTES: usize = 32;
 
-// What a call on a trail hands back: a call that is refused hands back the number of records held that it was given.
+// What a call on a trail hands back: the refusal's number, 0 where there is none, and the number of records held.
 #[derive(Clone, Copy)]
 pub(crate) struct Outcome {
-    refusal: Option<Refusal>,
+    refusal: u32,
     pub(crate) held: u32,
 }
 
 impl Outcome {
-    pub(crate) fn of(written: Result<u32, Refusal>, given: u32) -> Outcome {
-        match written {
-            Ok(held) => Outcome {
-                refusal: None,
-                held,
-            },
-            Err(refusal) => Outcome {
-                refusal: Some(refusal),
-                held: given,
-            },
+    pub(crate) fn of(written: Result<u32, Refused>) -> Outcome {
+        Outcome {
+            refusal: trail::refusal_number(written),
+            held: trail::held(written),
         }
     }
 }
 
 impl fmt::Display for Outcome {
     fn fmt<W: fmt::Write>(&self, f: &mut fmt::Formatter<W>) -> fmt::Result {
-        let number = self.refusal.map_or(0, |refusal| refusal.number());
-        write!(f, "refusal {number}, held {}", self.held)
+        write!(f, "refusal {}, held {}", self.refusal, self.held)
     }
 }
 

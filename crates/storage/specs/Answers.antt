@@ -92,3 +92,8 @@ completion_as change reads writes = Ok (counted change ((reads + writes) % 2 ^ 3
 
 abbrev pub completion : (reads writes : ℕ) → Step RecordChange
 completion = completion_as Unchanged
+
+-- the answer where a step ends the instruction (a value would complete, and change nothing in the record)
+abbrev pub ending : {A : Type 0} → Step A → Step RecordChange
+ending (Ok given) = Ok (counted Unchanged given.count)
+ending (Err e) = Err e

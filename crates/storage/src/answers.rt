@@ -1,6 +1,6 @@
-// Completion, as the answer of an instruction.
+// The answer of an instruction: completion, or what its last step ended with.
 ghost use Rattle.std.specs.Prelude.{◌≡◌};
-ghost use Rattle.storage.specs.Answers.{completion_as, completion};
+ghost use Rattle.storage.specs.Answers.{completion_as, completion, ending};
 
 use crate::steps::{Counted, Step};
 use rules::RecordChange;
@@ -20,4 +20,15 @@ pub fn completed(reads: u32, writes: u32) -> Step<RecordChange>
     ensures { result ≡ completion reads writes }
 {
     completed_as(RecordChange::Unchanged, reads, writes)
+}
+
+// A step that ends the instruction: its ending. (Here `?` hands that on; a value would complete, and change nothing in
+// the record.)
+pub fn ending(step: Step<u32>) -> Step<RecordChange>
+    ensures { result ≡ ending step }
+{
+    match step {
+        Ok(given) => completed(given.count, 0),
+        Err(ending) => Err(ending),
+    }
 }

@@ -17,7 +17,7 @@ mod recording;
 mod steps;
 mod stores;
 
-pub use answers::{completed, completed_as};
+pub use answers::{completed, completed_as, ending};
 pub use fetches::Item;
 pub use keys::consult_key;
 pub use recording::{Access, is_across, record_byte, record_word};

@@ -1,15 +1,16 @@
 -- What the code's answer says of a trail, with the buffer that it leaves.
 use Rattle.std.specs.Prelude.{ℕ, List, Option, None, Some, Result, Ok, Err}
-use Rattle.trail.specs.Trails.{Refusal, Trail, trail}
+use Rattle.trail.specs.Trails.{Trail, Refusal, trail}
+pub use Rattle.trail.specs.declared.refusal.Refused.{Refused}
 
-abbrev pub refusal_in : {A : Type 0} → Result A Refusal → Option Refusal
+abbrev pub refusal_in : {A : Type 0} → Result A Refused → Option Refusal
 refusal_in (Ok a) = None
-refusal_in (Err refusal) = Some refusal
+refusal_in (Err refused) = Some refused.refusal
 
--- a call that is refused hands back the number that it was given
-abbrev pub held_after : Result ℕ Refusal → (given : ℕ) → ℕ
-held_after (Ok held) given = held
-held_after (Err refusal) given = given
+-- the number of records held that is handed back, by a call that is refused too
+abbrev pub held_in : Result ℕ Refused → ℕ
+held_in (Ok held) = held
+held_in (Err refused) = refused.held
 
-abbrev pub told : Result ℕ Refusal → (given : ℕ) → (buffer : List ℕ) → Trail
-told answer given b = trail (refusal_in answer) (held_after answer given) b
+abbrev pub told : Result ℕ Refused → (buffer : List ℕ) → Trail
+told answer b = trail (refusal_in answer) (held_in answer) b

@@ -69,7 +69,7 @@ pub fn vma_trail_start(buffer: &mut [u8]) -> u64
     ensures held { held_in result ≡ (start buffer.old).held }
     ensures buffer { buffer.new ≡ (start buffer.old).buffer }
 {
-    pack_trail(trail::start(buffer), 0)
+    pack_trail(trail::start(buffer))
 }
 
 // Writes a call down in a trail: the guest's number, its record before and after the call, and the answer as
@@ -100,5 +100,5 @@ pub fn vma_trail_write(
         answer).buffer }
 {
     let entry = entry_from(number, *before, *after, first, installed, answer);
-    pack_trail(trail::write(buffer, held, entry), held)
+    pack_trail(trail::write(buffer, held, entry))
 }

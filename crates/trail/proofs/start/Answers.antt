@@ -7,7 +7,8 @@ use Rattle.trail.proofs.start.Goals as goal
 pub returns-in_err-check_length-clause-trail : goal.returns-in_err-check_length-clause-trail
 returns-in_err-check_length-clause-trail c =
     let b = c.args.buffer.now in
-    refusal_told _ _ 0 b c.from_residual.ensures.1 ∙ start_refused b _ c.in_err-check_length.ensures
+    let refused = c.in_err-check_length.ensures in
+    refusal_told _ _ 0 b c.from_residual.ensures.1 refused.held ∙ start_refused b _ refused.refusal
 
 pub returns-in_err-check_length-clause-number : goal.returns-in_err-check_length-clause-number
 returns-in_err-check_length-clause-number c = same_number (returns-in_err-check_length-clause-trail c)
@@ -15,7 +16,7 @@ returns-in_err-check_length-clause-number c = same_number (returns-in_err-check_
 pub returns-clause-trail : goal.returns-clause-trail
 unfolding start
 returns-clause-trail c =
-    let long = long_enough c.args.buffer.now c.in_ok-check_length.ensures in
+    let long = long_enough c.args.buffer.now c.in_ok-check_length.ensures.refusal in
     simp (le-ltb _ _ long) (ap (λ b. trail None 0 b) c.put_words.ensures)
 
 pub returns-clause-number : goal.returns-clause-number

@@ -7,8 +7,9 @@ use Rattle.trail.proofs.write.Goals as goal
 pub returns-in_err-check_trailer-clause-trail : goal.returns-in_err-check_trailer-clause-trail
 returns-in_err-check_trailer-clause-trail c =
     let a = c.args in
-    refusal_told _ _ a.held a.buffer.now c.from_residual.ensures.1
-    ∙ written_refused a.buffer.now a.held a.entry _ c.in_err-check_trailer.ensures
+    let refused = c.in_err-check_trailer.ensures in
+    refusal_told _ _ a.held a.buffer.now c.from_residual.ensures.1 refused.held
+    ∙ written_refused a.buffer.now a.held a.entry _ refused.refusal
 
 pub returns-in_err-check_trailer-clause-number : goal.returns-in_err-check_trailer-clause-number
 returns-in_err-check_trailer-clause-number c = same_number (returns-in_err-check_trailer-clause-trail c)
@@ -17,7 +18,7 @@ pub returns-then-has_room-clause-trail : goal.returns-then-has_room-clause-trail
 unfolding add
 returns-then-has_room-clause-trail c =
     let a = c.args in
-    let may = allowed a.buffer.now a.held c.in_ok-check_trailer.ensures in
+    let may = allowed a.buffer.now a.held c.in_ok-check_trailer.ensures.refusal in
     ap (λ b. trail None (a.held + 1) b) c.add.ensures
     ∙ sym (writes_added a.buffer.now a.held a.entry may.long may.found (sym c.if-has_room.ensures))
 
@@ -28,7 +29,7 @@ pub returns-else-has_room-clause-trail : goal.returns-else-has_room-clause-trail
 unfolding turn_away
 returns-else-has_room-clause-trail c =
     let a = c.args in
-    let may = allowed a.buffer.now a.held c.in_ok-check_trailer.ensures in
+    let may = allowed a.buffer.now a.held c.in_ok-check_trailer.ensures.refusal in
     ap (λ b. trail None a.held b) c.turn_away.ensures
     ∙ sym (writes_not_added a.buffer.now a.held a.entry may.long may.found (sym c.if-has_room.ensures))
 

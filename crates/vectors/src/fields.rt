@@ -1,5 +1,5 @@
 // Fields of a line: a space, then a number in lower-case hexadecimal digits.
-ghost use Rattle.std.specs.Prelude.{IfSome, ◌<◌};
+ghost use Rattle.std.specs.Prelude.{IfSome, ◌<◌, ◌≤◌};
 
 use crate::trouble::Trouble;
 
@@ -14,8 +14,10 @@ impl<'a> Fields<'a> {
         Fields { rest }
     }
 
-    // The number of the next field, of up to eight digits.
-    pub(crate) fn number(&mut self, digits: usize) -> Result<u32, Trouble> {
+    // The number of the next field: with more digits than eight it would lose the first.
+    pub(crate) fn number(&mut self, digits: usize) -> Result<u32, Trouble>
+        requires { digits ≤ 8 }
+    {
         let text = self.rest.strip_prefix(b" ").ok_or(Trouble::Form)?;
         let (number, rest) = text.split_at_checked(digits).ok_or(Trouble::Form)?;
         self.rest = rest;

@@ -1,6 +1,6 @@
 // Logical addresses: the access test, once for all instructions, and logical fetches.
 ghost use Rattle.std.specs.Prelude.{◌≡◌, ℕ, List};
-ghost use Rattle.rules.specs.Access.{real_of, key_test, access, store_test, logical_fetch, second_halfword};
+ghost use Rattle.rules.specs.Access.{key_test, access, store_test, logical_fetch, second_halfword};
 ghost use Rattle.storage.specs.Answers.{machine, told, seen};
 ghost use Rattle.access.specs.Passes.{passes_for};
 
@@ -37,29 +37,20 @@ fn key_test(keys: &mut [u8], kind: Access, psw_key: u32, real: u32) -> Step<u32>
     })
 }
 
-// With DAT off a logical address is real.
-#[inline(always)]
-fn real_of(storage: &[u8], keys: &mut [u8], guest: Guest, at: u32) -> Step<u32>
-    ensures { told result storage.now keys.new
-        ≡ seen (real_of guest at) (machine storage.now keys.old) }
-{
-    if guest.dat_on() {
-        return translate(storage, keys, guest.cr0, guest.cr1, at);
-    }
-    Ok(Counted {
-        value: at,
-        count: 0,
-    })
-}
-
 // The access test, once for all instructions: the real address of a logical one, where its key lets the access pass.
+// With DAT off a logical address is real. It is no `Step` there: the compiler would join it in memory with the one that
+// translation answers, and each access would wait for it.
 #[inline(always)]
 fn access_test(storage: &[u8], keys: &mut [u8], kind: Access, guest: Guest, at: u32) -> Step<u32>
     ensures { told result storage.now keys.new
         ≡ seen (access (passes_for kind) guest at) (machine storage.now keys.old) }
 {
-    let real = real_of(storage, keys, guest, at)?;
-    key_test(keys, kind, guest.psw_key(), real.value).after(real.count)
+    let psw_key = guest.psw_key();
+    if guest.dat_on() {
+        let real = translate(storage, keys, guest.cr0, guest.cr1, at)?;
+        return key_test(keys, kind, psw_key, real.value).after(real.count);
+    }
+    key_test(keys, kind, psw_key, at)
 }
 
 // The store test of an operand: low-address protection comes before translation, and makes no entry.

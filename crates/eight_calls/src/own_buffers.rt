@@ -3,7 +3,7 @@
 use crate::recorder::UNUSED;
 use crate::show::{Outcome, RECORD_BYTES, TRAILER_BYTES, print_outcome, print_trailer};
 use std::io;
-use trail::{Entry, Refused};
+use trail::{Entry, RefusedCall};
 
 const ONE_RECORD: usize = RECORD_BYTES + TRAILER_BYTES;
 
@@ -30,7 +30,7 @@ fn try_length(rt: &impl Print, buffer: &mut [u8], last: Entry) -> io::Result<()>
     print_outcome(rt, outcome, buffer)
 }
 
-fn write_first(buffer: &mut [u8], last: Entry) -> Result<u32, Refused> {
+fn write_first(buffer: &mut [u8], last: Entry) -> Result<u32, RefusedCall> {
     let held = trail::start(buffer)?;
     trail::write(buffer, held, last)
 }

@@ -1,6 +1,6 @@
 // Parts of the lines.
 use std::{fmt, io};
-use trail::{Entry, Refused};
+use trail::{Entry, RefusedCall};
 
 pub(crate) const RECORD_BYTES: usize = 128;
 
@@ -16,7 +16,7 @@ pub(crate) struct Outcome {
 }
 
 impl Outcome {
-    pub(crate) fn of(written: Result<u32, Refused>) -> Outcome {
+    pub(crate) fn of(written: Result<u32, RefusedCall>) -> Outcome {
         Outcome {
             refusal: trail::refusal_number(written),
             held: trail::held(written),

@@ -13,7 +13,7 @@ use Rattle.operations.proofs.Junctions.{both_true}
 use Rattle.trail.specs.Records.{Entry, trailer_bytes}
 use Rattle.std.specs.Prelude.{None, Some, Result}
 use Rattle.std.specs.Result.{IsErrAnd}
-use Rattle.trail.specs.Answers.{Refused, told}
+use Rattle.trail.specs.Answers.{RefusedCall, told}
 use Rattle.trail.specs.Trails.{
   Refusal,
   Trail,
@@ -89,12 +89,12 @@ write_cases b held e P short missing goes stays =
     by false true f false r = stays f r
 
 -- the refusal that a `?` hands on, as a trail
-pub refusal_told : (answer : Result ℕ Refused) (r : Refused) (given : ℕ) (b : List ℕ) → IsErrAnd answer (λ x. x ≡ r)
+pub refusal_told : (answer : Result ℕ RefusedCall) (r : RefusedCall) (given : ℕ) (b : List ℕ) → IsErrAnd answer (λ x. x ≡ r)
     → r.held ≡ given → told answer b ≡ trail (Some r.refusal) given b
 refusal_told answer r given b h same =
     let p = err_from_is_err_and answer h in
     ap (λ x. told x b) p.1
-    ∙ ap (λ (x : Refused). trail (Some x.refusal) x.held b) p.2
+    ∙ ap (λ (x : RefusedCall). trail (Some x.refusal) x.held b) p.2
     ∙ ap (λ n. trail (Some r.refusal) n b) same
 
 -- trails that are the same have the same refusal's number

@@ -89,8 +89,8 @@ write_cases b held e P short missing goes stays =
     by false true f false r = stays f r
 
 -- the refusal that a `?` hands on, as a trail
-pub refusal_told : (answer : Result ℕ RefusedCall) (r : RefusedCall) (given : ℕ) (b : List ℕ) → IsErrAnd answer (λ x. x ≡ r)
-    → r.held ≡ given → told answer b ≡ trail (Some r.refusal) given b
+pub refusal_told : (answer : Result ℕ RefusedCall) (r : RefusedCall) (given : ℕ) (b : List ℕ)
+    → IsErrAnd answer (λ x. x ≡ r) → r.held ≡ given → told answer b ≡ trail (Some r.refusal) given b
 refusal_told answer r given b h same =
     let p = err_from_is_err_and answer h in
     ap (λ x. told x b) p.1

@@ -1,5 +1,5 @@
 use Rattle.std.proofs.Common.{ℕ, ap, sym, ◌∙◌}
-use Rattle.rules.specs.Steps.{Steps, ◌>>=◌}
+use Rattle.rules.specs.Steps.{◌>>=◌}
 use Rattle.rules.specs.Guest.{psw_key}
 use Rattle.rules.specs.Translation.{translate}
 use Rattle.rules.specs.Access.{real_of, key_test, access}
@@ -38,4 +38,5 @@ returns-then-dat_on c =
 pub returns : goal.returns
 unfolding access real_of seen ◌>>=◌
 returns c =
-    simp (sym c.dat_on.ensures ∙ c.if-dat_on.false, sym c.psw_key-psw_key.ensures) (c.key_test-2.ensures c.args.storage.now)
+    simp (sym c.dat_on.ensures ∙ c.if-dat_on.false, sym c.psw_key-psw_key.ensures)
+    (c.key_test-2.ensures c.args.storage.now)

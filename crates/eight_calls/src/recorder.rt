@@ -26,13 +26,13 @@ impl Recorder {
 
     pub(crate) fn start(&mut self) -> Outcome {
         let outcome = Outcome::of(trail::start(&mut self.buffer));
-        self.held = outcome.held;
+        self.held = outcome.held();
         outcome
     }
 
     pub(crate) fn write(&mut self, entry: Entry) -> Outcome {
         let outcome = Outcome::of(trail::write(&mut self.buffer, self.held, entry));
-        self.held = outcome.held;
+        self.held = outcome.held();
         outcome
     }
 }

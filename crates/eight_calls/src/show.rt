@@ -8,25 +8,27 @@ pub(crate) const TRAILER_BYTES: usize = 16;
 
 const LINE_BYTES: usize = 32;
 
-// What a call on a trail hands back: the refusal's number, 0 where there is none, and the number of records held.
+// What a call on a trail answers. Printed are the refusal's number, 0 where there is none, and the number of records
+// held that it hands back.
 #[derive(Clone, Copy)]
 pub(crate) struct Outcome {
-    refusal: u32,
-    pub(crate) held: u32,
+    answer: Result<u32, RefusedCall>,
 }
 
 impl Outcome {
-    pub(crate) fn of(written: Result<u32, RefusedCall>) -> Outcome {
-        Outcome {
-            refusal: trail::refusal_number(written),
-            held: trail::held(written),
-        }
+    pub(crate) fn of(answer: Result<u32, RefusedCall>) -> Outcome {
+        Outcome { answer }
+    }
+
+    pub(crate) fn held(self) -> u32 {
+        trail::held(self.answer)
     }
 }
 
 impl fmt::Display for Outcome {
     fn fmt<W: fmt::Write>(&self, f: &mut fmt::Formatter<W>) -> fmt::Result {
-        write!(f, "refusal {}, held {}", self.refusal, self.held)
+        let number = trail::refusal_number(self.answer);
+        write!(f, "refusal {number}, held {}", self.held())
     }
 }
 
@@ -73,7 +75,7 @@ pub(crate) fn print_trailer(rt: &impl Print, buffer: &[u8], held: u32) -> io::Re
 // With the trailer that the number handed back points at.
 pub(crate) fn print_outcome(rt: &impl Print, outcome: Outcome, buffer: &[u8]) -> io::Result<()> {
     print!(rt; "{outcome}")?;
-    print_trailer(rt, buffer, outcome.held)
+    print_trailer(rt, buffer, outcome.held())
 }
 
 // The last line has what is left.
